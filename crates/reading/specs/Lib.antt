@@ -1,0 +1,2 @@
+-- What ranges mean.
+pub mod Ends
