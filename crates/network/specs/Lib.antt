@@ -1,0 +1,2 @@
+-- What measures are.
+pub mod Measures

@@ -1,0 +1,2 @@
+-- What a store means.
+pub mod Stored
