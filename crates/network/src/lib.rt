@@ -1,6 +1,7 @@
 // The network: pipes, and the measures of distance along them.
 mod measure;
 mod pipe;
+
 pub use measure::Drops;
 pub use measure::DropsMeasure;
 pub use measure::Hops;

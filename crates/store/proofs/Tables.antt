@@ -54,9 +54,9 @@ module _ (rs : List Range) (k : ℕ) (g : Ends) where
     not-full : is-full (table rs) k g ≡ false
     not-full =
         both-fail (is-widest (at (map ends rs) k)) (not (is-widest g)) (leb (length rs) (used (map ends rs)))
-          (λ w. lt-leb (length rs) (used (map ends rs)) (omega (arith, room (map ends rs) k there w, length-map rs ends)))
+        (λ w. lt-leb (length rs) (used (map ends rs)) (omega (arith, room (map ends rs) k there w, length-map rs ends)))
 
     pub narrowed : (x : Range) → ends x ≡ g → inside g (ends r) ≡ true → Entered (table rs) k g (Ok tt) (table (set rs k x))
     narrowed x same e =
         entered (table rs) k g (ends r) there held (table (set rs k x)) e not-full
-          (λ i. stored (length-set rs k x i) ((map-set ends rs k x ∙ ap (set (map ends rs) k) same) i))
+        (λ i. stored (length-set rs k x i) ((map-set ends rs k x ∙ ap (set (map ends rs) k) same) i))

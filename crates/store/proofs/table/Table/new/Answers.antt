@@ -10,10 +10,12 @@ use Rattle.store.proofs.table.Table.new.Needs as need
 
 pub loop-cell-again : need.loop-cell-again
 loop-cell-again c =
-    let rs = vec-items (c .loop-cell .ranges) in
-    (omega arith, omega arith,
+    let rs = vec-items (c .loop-cell .ranges) in (
+      omega arith,
+      omega arith,
       ap (map ends) (c .push-reserved .ensures .items) ∙ map-push ends rs (c .widest .result) ∙ ap (λ (l : List Ends). l ++ ends (c .widest .result) ∷ []) (c .loop-cell .inv .2)
-      ∙ ap (λ (e : Ends). replicate (c .loop-cell .-cell) widest ++ e ∷ []) (c .widest .ensures) ∙ replicate-more (c .loop-cell .-cell) widest)
+          ∙ ap (λ (e : Ends). replicate (c .loop-cell .-cell) widest ++ e ∷ []) (c .widest .ensures) ∙ replicate-more (c .loop-cell .-cell) widest,
+    )
 
 pub returns : need.returns
 returns c =

@@ -1,0 +1,19 @@
+// What a row of a plan says.
+
+// What a row says of a place at a step. It refers to rows by their numbers, which are lower than its own.
+#[derive(Clone, Copy)]
+pub enum Statement {
+    // the channel's reading is at least the limit
+    AtLeast { channel: u32, limit: i32 },
+    Not { row: u32 },
+    And { left: u32, right: u32 },
+    Or { left: u32, right: u32 },
+    Yes,
+}
+
+// A row as it is asked for: a statement, or a code that names none.
+#[derive(Clone, Copy)]
+pub enum Row {
+    Known(Statement),
+    Unknown,
+}
