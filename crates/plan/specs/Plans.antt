@@ -27,9 +27,9 @@ pub record Plan : Type 0 where
 abbrev pub cells : Plan → ℕ
 cells plan = plan .channels * plan .steps * plan .places
 
--- the cell of a channel, a step and a place
-abbrev pub cell : Plan → ℕ → ℕ → ℕ → ℕ
-cell plan c t p = (c * plan .steps + t) * plan .places + p
+-- the index of what belongs to a channel or a row n, a step and a place
+abbrev pub index : Plan → ℕ → ℕ → ℕ → ℕ
+index plan n t p = (n * plan .steps + t) * plan .places + p
 
 -- from 1 to the most that there may be
 abbrev pub within-most : ℕ → ℕ → Bool

@@ -5,7 +5,7 @@ ghost use lib.ListN.{length};
 ghost use Rattle.std.specs.Vec.{made};
 ghost use Rattle.refusal.specs.Checks.{answer, leaves};
 ghost use Rattle.plan.specs.Rows.{refers, names-channel};
-ghost use Rattle.plan.specs.Plans.{size-refusal, within-most, opened, pipe-refusal, with-pipe, row-refusal, with-row, cells};
+ghost use Rattle.plan.specs.Plans.{size-refusal, within-most, opened, pipe-refusal, with-pipe, row-refusal, with-row, cells, index};
 ghost use Rattle.plan.specs.Drafts.{plan-of};
 use crate::draft::Draft;
 use crate::statement::Row;
@@ -170,6 +170,14 @@ impl Draft {
         ensures { λ r. ⌜ r ≡ cells (plan-of (now (self .entry))) ⌝ }
     {
         self.channels as usize * self.steps as usize * self.places as usize
+    }
+
+    // The index of a cell, by its channel, or of a verdict on a board, by its row.
+    pub fn index(&self, number: u32, step: u32, place: u32) -> usize
+        ensures { λ r. ⌜ r ≡ index (plan-of (now (self .entry))) number step place ⌝ }
+    {
+        let line = number as usize * self.steps as usize + step as usize;
+        line * self.places as usize + place as usize
     }
 
     // The rows, in the order of their numbers.

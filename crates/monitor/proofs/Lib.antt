@@ -1,0 +1,5 @@
+-- The one sheet, and how a board is filled.
+pub mod OneSheet
+mod Positions
+mod Filling
+mod Scan

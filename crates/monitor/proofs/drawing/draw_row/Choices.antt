@@ -1,0 +1,11 @@
+use Rattle.store.specs.Stored.{at}
+use Rattle.plan.specs.Plans.{index}
+use Rattle.plan.specs.Drafts.{plan-of}
+use Rattle.monitor.specs.Verdicts.{verdict}
+use Rattle.monitor.specs.Boards.{Filled, Beyond}
+use Rattle.monitor.proofs.drawing.draw_row.Given as given
+
+abbrev pub Inv-loop-step : given.InvT-loop-step
+Inv-loop-step g l =
+    Filled (plan-of (l .draft)) (verdict (g .K·Kind .ops) (g .M·Measure .extend) (plan-of (l .draft)) (at (g .S·Readings .ranges (l .readings)))) (index (plan-of (l .draft)) (l .row) (l .step) 0) (l .board)
+    × Beyond (index (plan-of (l .draft)) (l .row) (l .step) 0) (l .entry .board) (l .board)

@@ -1,0 +1,34 @@
+-- The verdict at every row, step and place, and that it is the one and only sheet.
+use mathlib.Core.Path.{_≡_}
+use Prim.Native.Nat.{ℕ, zero, suc, _<_}
+use lib.ListN.{length}
+use Rattle.reading.specs.Ends.{Ends}
+use Rattle.verdict.specs.Algebra.{Ops}
+use Rattle.network.specs.Measures.{Extend}
+use Rattle.plan.specs.declared.statement.Statement.{Statement}
+use Rattle.plan.specs.declared.statement.Statement.the-variants.{AtLeast, Not, And, Or, Yes}
+use Rattle.plan.specs.Plans.{Plan, index}
+use Rattle.monitor.specs.Meaning.{Sheet, row-at, IsSheet}
+
+module _ {V : Type 0} (o : Ops V) (x : Extend) (plan : Plan) (readings : ℕ → Ends) where
+  -- the verdict of a statement over the verdicts f of the rows before it
+  abbrev pub value : Sheet V → Statement → ℕ → ℕ → V
+  value f (AtLeast c k) t p = o .judge (readings (index plan c t p) .low) (readings (index plan c t p) .high) k
+  value f (Not r) t p = o .neg (f r t p)
+  value f (And r s) t p = o .meet (f r t p) (f s t p)
+  value f (Or r s) t p = o .join (f r t p) (f s t p)
+  value f Yes t p = o .top
+
+  -- the verdicts of the rows below n; a row refers to rows before it, so n turns settle them
+  abbrev pub below : ℕ → Sheet V
+  below zero i t p = o .bottom
+  below (suc n) i t p = value (below n) (row-at plan i) t p
+
+  -- the verdict at a row, a step and a place
+  abbrev pub verdict : Sheet V
+  verdict i t p = below (suc i) i t p
+
+  -- the verdicts have the meaning, and nothing else has
+  pub record OneSheet : Type 0 where
+    pub meant : IsSheet o x plan readings verdict
+    pub only : (f : Sheet V) → IsSheet o x plan readings f → (i t p : ℕ) → i < length (plan .rows) → t < plan .steps → p < plan .places → f i t p ≡ verdict i t p

@@ -1,0 +1,1 @@
+-- Nothing is shared between proofs.

@@ -1,0 +1,7 @@
+-- What verdicts mean.
+pub mod Algebra
+pub mod Linear
+pub mod YesNo
+pub mod Margins
+pub mod Spans
+pub mod Text
