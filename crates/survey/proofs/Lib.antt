@@ -1,0 +1,2 @@
+-- What an entry comes to.
+mod Entries

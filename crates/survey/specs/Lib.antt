@@ -1,0 +1,2 @@
+-- What a survey holds, and what it refuses.
+pub mod Surveys
