@@ -28,12 +28,11 @@ pub impl Printed for YesNo as YesNoPrinted {
     ghost text = { yesno-text };
 
     fn write(self, heap: Global, out: &mut String) -> Result<(), AllocError> {
-        out.push_str(
-            match self {
-                YesNo::Yes => "y",
-                YesNo::No => "n",
-            },
-        )
+        let letter = match self {
+            YesNo::Yes => "y",
+            YesNo::No => "n",
+        };
+        out.push_str(letter)
     }
 }
 
