@@ -1,5 +1,5 @@
 -- The one sheet, and how a board is filled.
 pub mod OneSheet
-mod Positions
-mod Filling
+pub mod Positions
+pub mod Filling
 mod Scan

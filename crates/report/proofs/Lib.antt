@@ -1,0 +1,2 @@
+-- How a sheet's text grows as it is written.
+mod Written

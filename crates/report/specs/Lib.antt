@@ -1,0 +1,2 @@
+-- What is printed of refusals and sheets.
+pub mod Texts
