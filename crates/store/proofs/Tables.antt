@@ -12,11 +12,9 @@ use Rattle.std.specs.declared.result.Result.the-variants.{Ok, Err}
 use Rattle.reading.specs.declared.range.Range.{Range}
 use Rattle.reading.specs.Ends.{Ends, ends, widest, inside, is-widest}
 use Rattle.refusal.specs.declared.Refusal.the-variants.{NoSuchCell, NotInside}
-use Rattle.store.specs.Stored.{Stored, stored, at, used, is-full, Entered}
+use Rattle.store.specs.Stored.{stored, at, used, is-full, Entered}
+use Rattle.store.specs.Tables.{tabled}
 use Rattle.store.proofs.Entering.{no-cell, not-inside, entered}
-
-abbrev pub table : List Range → Stored
-table rs = stored (length rs) (map ends rs)
 
 bit : (b : Bool) → cond b 0 1 ≤ 1
 bit true = omega arith
@@ -38,8 +36,8 @@ both-fail true true d h = h refl
 both-fail true false d h = refl
 
 module _ (rs : List Range) (k : ℕ) (g : Ends) where
-  pub missing : length rs ≤ k → Entered (table rs) k g (Err NoSuchCell) (table rs)
-  missing le = no-cell (table rs) k g (omega (arith, length-map rs ends))
+  pub missing : length rs ≤ k → Entered (tabled rs) k g (Err NoSuchCell) (tabled rs)
+  missing le = no-cell (tabled rs) k g (omega (arith, length-map rs ends))
 
   module _ (r : Range) (lt : k < length rs) (is : r ≡ getD rs k r) where
     there : k < length (map ends rs)
@@ -48,15 +46,15 @@ module _ (rs : List Range) (k : ℕ) (g : Ends) where
     pub held : at (map ends rs) k ≡ ends r
     held = getD-map ends rs k r widest lt ∙ ap ends (sym is)
 
-    pub outside : inside g (ends r) ≡ false → Entered (table rs) k g (Err NotInside) (table rs)
-    outside e = not-inside (table rs) k g (ends r) there held e
+    pub outside : inside g (ends r) ≡ false → Entered (tabled rs) k g (Err NotInside) (tabled rs)
+    outside e = not-inside (tabled rs) k g (ends r) there held e
 
-    not-full : is-full (table rs) k g ≡ false
+    not-full : is-full (tabled rs) k g ≡ false
     not-full =
         both-fail (is-widest (at (map ends rs) k)) (not (is-widest g)) (leb (length rs) (used (map ends rs)))
         (λ w. lt-leb (length rs) (used (map ends rs)) (omega (arith, room (map ends rs) k there w, length-map rs ends)))
 
-    pub narrowed : (x : Range) → ends x ≡ g → inside g (ends r) ≡ true → Entered (table rs) k g (Ok tt) (table (set rs k x))
+    pub narrowed : (x : Range) → ends x ≡ g → inside g (ends r) ≡ true → Entered (tabled rs) k g (Ok tt) (tabled (set rs k x))
     narrowed x same e =
-        entered (table rs) k g (ends r) there held (table (set rs k x)) e not-full
+        entered (tabled rs) k g (ends r) there held (tabled (set rs k x)) e not-full
         (λ i. stored (length-set rs k x i) ((map-set ends rs k x ∙ ap (set (map ends rs) k) same) i))

@@ -1,2 +1,3 @@
 -- What a store means.
 pub mod Stored
+pub mod Tables

@@ -1,11 +1,8 @@
 // The full table: one range for each cell.
 ghost use mathlib.Core.Path.{_≡_};
-ghost use mathlib.Core.List.{map};
-ghost use lib.ListN.{length};
-ghost use Rattle.std.specs.Of.Vec.{vec-items};
 ghost use Rattle.std.specs.Vec.{made};
-ghost use Rattle.reading.specs.Ends.{ends};
-ghost use Rattle.store.specs.Stored.{stored, fresh};
+ghost use Rattle.store.specs.Stored.{fresh};
+ghost use Rattle.store.specs.Tables.{table-of};
 use crate::readings::Readings;
 use crate::readings::Store;
 use reading::Range;
@@ -21,7 +18,7 @@ pub struct Table {
 impl Table {
     // All cells are widest.
     pub fn new(heap: Global, cells: usize) -> Result<Table, AllocError>
-        ensures { λ r. ⌜ made r (λ t. stored (length (vec-items (t .ranges))) (map ends (vec-items (t .ranges))) ≡ fresh cells cells) ⌝ }
+        ensures { λ r. ⌜ made r (λ t. table-of t ≡ fresh cells cells) ⌝ }
     {
         let mut ranges = Vec::with_capacity(heap, cells)?;
         for _cell in 0..cells {
@@ -32,7 +29,7 @@ impl Table {
 }
 
 pub impl Readings for Table as TableReadings {
-    ghost ranges = { λ t. map ends (vec-items (t .ranges)) };
+    ghost ranges = { λ t. table-of t .ranges };
 
     fn cells(&self) -> usize {
         self.ranges.len()
@@ -47,7 +44,7 @@ pub impl Readings for Table as TableReadings {
 }
 
 pub impl Store for Table as TableStore {
-    ghost most = { λ t. length (vec-items (t .ranges)) };
+    ghost most = { λ t. table-of t .capacity };
 
     fn capacity(&self) -> usize {
         self.ranges.len()

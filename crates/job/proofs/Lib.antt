@@ -1,0 +1,2 @@
+-- What the turns of a job come to.
+mod Lines
