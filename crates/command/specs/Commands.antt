@@ -24,7 +24,7 @@ use Rattle.command.specs.declared.sheet.MeasureName.the-variants.{Hops, Length
 use Rattle.command.specs.declared.command.Command.{Command}
 use Rattle.command.specs.declared.command.Command.the-variants.{Open, LayPipe, WriteRow, Seal, Enter, DrawSheet}
 
--- what follows from a value, if there is one
+-- what a value leads to, where there is one
 abbrev pub given : {A B : Type 0} → Option A → (A → Option B) → Option B
 given None then = None
 given (Some a) then = then a
@@ -33,9 +33,9 @@ given (Some a) then = then a
 abbrev pub at : List Field → ℕ → Field
 at fs i = getD fs i misspelt
 
--- the rows of a plan
+-- The rows. A field is a natural number, but for those that may be negative.
 
--- channel k: the limit k may be negative
+-- channel k, where k may be negative
 abbrev pub at-least-row : List Field → Option Row
 at-least-row fs =
     cond (eqb (length fs) 2)
@@ -69,11 +69,11 @@ abbrev pub numbers : List Field → Bool
 numbers [] = true
 numbers (f ∷ fs) = isSome (integer f) && numbers fs
 
--- any count of numbers, negative too
+-- any count of numbers, which may be negative, and nothing else
 abbrev pub unknown-row : List Field → Option Row
 unknown-row fs = cond (numbers fs) (Some Unknown) None
 
--- the row of a code, and of the fields after it
+-- the row of a code and of the fields after it
 abbrev pub coded : ℕ → List Field → Option Row
 coded code fs =
     cond (eqb code 1) (at-least-row fs)
@@ -83,11 +83,12 @@ coded code fs =
     (cond (eqb code 9) (yes-row fs)
     (unknown-row fs)))))
 
+-- the row of a code, which is not negative, and its fields
 abbrev pub written : List Field → Option Row
 written [] = None
 written (f ∷ fs) = given (natural f) (λ code. coded code fs)
 
--- the commands
+-- The commands.
 
 -- O places steps channels
 abbrev pub opening : List Field → Option Command
@@ -119,7 +120,7 @@ writing fs = given (written fs) (λ row. Some (WriteRow row))
 abbrev pub sealing : List Field → Option Command
 sealing fs = cond (eqb (length fs) 0) (Some Seal) None
 
--- E channel place step low high
+-- E channel place step low high, where low and high may be negative
 abbrev pub entering : List Field → Option Command
 entering fs =
     cond (eqb (length fs) 5)
@@ -137,7 +138,7 @@ measured n =
     (cond (eqb n 3) (Some Drops)
     None))
 
--- a sheet's letter, and a measure
+-- a measure after the letter of a kind of sheet
 abbrev pub drawing : SheetKind → List Field → Option Command
 drawing kind fs =
     cond (eqb (length fs) 1)
@@ -145,42 +146,41 @@ drawing kind fs =
     given (measured n) (λ measure. Some (DrawSheet kind measure))))
     None
 
--- the command of a letter and the fields after it
--- 79 is O, 80 P, 82 R, 83 S, 69 E, 121 y, 109 m, 89 Y, 77 M
+-- the command of a letter, here by its code, and of the fields after it
 abbrev pub said : ℕ → List Field → Option Command
 said letter fs =
-    cond (eqb letter 79) (opening fs)
-    (cond (eqb letter 80) (laying fs)
-    (cond (eqb letter 82) (writing fs)
-    (cond (eqb letter 83) (sealing fs)
-    (cond (eqb letter 69) (entering fs)
-    (cond (eqb letter 121) (drawing YesNo fs)
-    (cond (eqb letter 109) (drawing Margin fs)
-    (cond (eqb letter 89) (drawing YesNoSpan fs)
-    (cond (eqb letter 77) (drawing MarginSpan fs)
+    cond (eqb letter 79) (opening fs)  -- O
+    (cond (eqb letter 80) (laying fs)  -- P
+    (cond (eqb letter 82) (writing fs)  -- R
+    (cond (eqb letter 83) (sealing fs)  -- S
+    (cond (eqb letter 69) (entering fs)  -- E
+    (cond (eqb letter 121) (drawing YesNo fs)  -- y
+    (cond (eqb letter 109) (drawing Margin fs)  -- m
+    (cond (eqb letter 89) (drawing YesNoSpan fs)  -- Y
+    (cond (eqb letter 77) (drawing MarginSpan fs)  -- M
     None))))))))
 
--- the letters: O P R S E y m Y M
+-- the letters are O P R S E y m Y M
 abbrev pub known : ℕ → Bool
 known b =
     eqb b 79 || eqb b 80 || eqb b 82 || eqb b 83 || eqb b 69 || eqb b 121 || eqb b 109 || eqb b 89 || eqb b 77
 
--- O belongs in a blank job, P, R and S in drafting, E and the letters of sheets in a sealed one
+-- O belongs in a blank job, P, R and S in drafting, and E, y, m, Y and M in a sealed one
 abbrev pub belongs : Part → ℕ → Bool
 belongs Blank b = eqb b 79
 belongs Drafting b = eqb b 80 || eqb b 82 || eqb b 83
 belongs Sealed b = eqb b 69 || eqb b 121 || eqb b 109 || eqb b 89 || eqb b 77
 
--- at most 80 bytes: a letter, and then its fields
+-- at most 80 bytes: a letter and its fields
 abbrev pub spelt : ℕ → List ℕ → Option Command
 spelt b bs = cond (leb (length (b ∷ bs)) 80) (given (fields bs) (said b)) None
 
--- a command where its letter belongs
+-- a command that is well spelt, where its letter belongs
 abbrev pub placed : Part → ℕ → Option Command → Result Command Refusal
 placed part b None = Err Misspelt
 placed part b (Some c) = cond (belongs part b) (Ok c) (Err OutOfPlace)
 
--- what a line asks for; its letter is looked at first, then its spelling, then its place
+-- what a line asks for: its letter is looked at first, then its spelling, then its place
 abbrev pub command : Part → List ℕ → Result Command Refusal
 command part [] = Err NoLetter
 command part (b ∷ bs) = cond (known b) (placed part b (spelt b bs)) (Err NoLetter)

@@ -4,7 +4,7 @@ use crate::sheet::SheetKind;
 use network::Pipe;
 use plan::Row;
 
-// The numbers are as the line has them, whether or not they can be met.
+// The numbers are as the line has them; whether they can be granted is not looked at here.
 #[derive(Clone, Copy)]
 pub enum Command {
     Open {

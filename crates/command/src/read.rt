@@ -39,10 +39,10 @@ fn read_spelt(heap: Global, letter: char, rest: &[u8]) -> Result<Option<Command>
     if rest.len() >= MOST_BYTES {
         return Ok(None);
     }
-    match read_tokens(heap, rest)? {
-        Some(tokens) => Ok(read_form(letter, tokens.as_slice())),
-        None => Ok(None),
-    }
+    let Some(tokens) = read_tokens(heap, rest)? else {
+        return Ok(None);
+    };
+    Ok(read_form(letter, tokens.as_slice()))
 }
 
 // The command, if it is one and stands in its part.

@@ -1,5 +1,5 @@
 -- The proof of read_row.
-use mathlib.Core.Path.{_≡_, refl, sym, ap, _∙_}
+use mathlib.Core.Path.{sym, _∙_}
 use Rattle.command.proofs.Tokens.{no-row}
 use Rattle.command.proofs.rows.read_row.Needs as need
 
