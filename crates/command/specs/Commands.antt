@@ -11,7 +11,7 @@ use Rattle.std.specs.declared.result.Result.{Result}
 use Rattle.std.specs.declared.result.Result.the-variants.{Ok, Err}
 use Rattle.refusal.specs.declared.Refusal.{Refusal}
 use Rattle.refusal.specs.declared.Refusal.the-variants.{NoLetter, Misspelt, OutOfPlace}
-use Rattle.plan.specs.declared.statement.Statement.the-variants.{AtLeast, Not, And, Or, Yes}
+use Rattle.plan.specs.declared.statement.Statement.the-variants.{AtLeast, Not, And, Or, Until, Since, Yes}
 use Rattle.plan.specs.declared.statement.Row.{Row}
 use Rattle.plan.specs.declared.statement.Row.the-variants.{Known, Unknown}
 use Rattle.line.specs.Line.{Field, misspelt, natural, integer, fields}
@@ -61,6 +61,22 @@ and-row fs = given (row-pair fs) (λ p. Some (Known (And (p .0) (p .1))))
 abbrev pub or-row : List Field → Option Row
 or-row fs = given (row-pair fs) (λ p. Some (Known (Or (p .0) (p .1))))
 
+-- r s a b
+abbrev pub row-window : List Field → Option (ℕ × ℕ × ℕ × ℕ)
+row-window fs =
+    cond (eqb (length fs) 4)
+    (given (natural (at fs 0)) (λ r.
+    given (natural (at fs 1)) (λ s.
+    given (natural (at fs 2)) (λ a.
+    given (natural (at fs 3)) (λ b. Some (r, s, a, b))))))
+    None
+
+abbrev pub until-row : List Field → Option Row
+until-row fs = given (row-window fs) (λ w. Some (Known (Until (w .0) (w .1) (w .2) (w .3))))
+
+abbrev pub since-row : List Field → Option Row
+since-row fs = given (row-window fs) (λ w. Some (Known (Since (w .0) (w .1) (w .2) (w .3))))
+
 -- no fields
 abbrev pub yes-row : List Field → Option Row
 yes-row fs = cond (eqb (length fs) 0) (Some (Known Yes)) None
@@ -80,8 +96,10 @@ coded code fs =
     (cond (eqb code 2) (not-row fs)
     (cond (eqb code 3) (and-row fs)
     (cond (eqb code 4) (or-row fs)
+    (cond (eqb code 5) (until-row fs)
+    (cond (eqb code 6) (since-row fs)
     (cond (eqb code 9) (yes-row fs)
-    (unknown-row fs)))))
+    (unknown-row fs)))))))
 
 -- the row of a code, which is not negative, and its fields
 abbrev pub written : List Field → Option Row

@@ -2,7 +2,7 @@
 ghost use mathlib.Core.Path.{_≡_};
 ghost use mathlib.Core.List.{map};
 ghost use Rattle.line.specs.Line.{token-field};
-ghost use Rattle.command.specs.Commands.{at-least-row, not-row, row-pair, and-row, or-row, yes-row, numbers, unknown-row, coded, written};
+ghost use Rattle.command.specs.Commands.{at-least-row, not-row, row-pair, and-row, or-row, row-window, until-row, since-row, yes-row, numbers, unknown-row, coded, written};
 use line::Token;
 use plan::Row;
 use plan::Statement;
@@ -56,6 +56,45 @@ fn or_row(fields: &[Token]) -> Option<Row>
     Some(Row::Known(Statement::Or { left, right }))
 }
 
+// `r s a b`
+fn row_window(fields: &[Token]) -> Option<(u32, u32, u32, u32)>
+    ensures { λ r. ⌜ r ≡ row-window (map token-field (now (fields .entry))) ⌝ }
+{
+    let [hold, goal, from, upto] = fields else {
+        return None;
+    };
+    Some((
+        hold.natural()?,
+        goal.natural()?,
+        from.natural()?,
+        upto.natural()?,
+    ))
+}
+
+fn until_row(fields: &[Token]) -> Option<Row>
+    ensures { λ r. ⌜ r ≡ until-row (map token-field (now (fields .entry))) ⌝ }
+{
+    let (hold, goal, from, upto) = row_window(fields)?;
+    Some(Row::Known(Statement::Until {
+        hold,
+        goal,
+        from,
+        upto,
+    }))
+}
+
+fn since_row(fields: &[Token]) -> Option<Row>
+    ensures { λ r. ⌜ r ≡ since-row (map token-field (now (fields .entry))) ⌝ }
+{
+    let (hold, goal, from, upto) = row_window(fields)?;
+    Some(Row::Known(Statement::Since {
+        hold,
+        goal,
+        from,
+        upto,
+    }))
+}
+
 fn yes_row(fields: &[Token]) -> Option<Row>
     ensures { λ r. ⌜ r ≡ yes-row (map token-field (now (fields .entry))) ⌝ }
 {
@@ -95,6 +134,8 @@ fn coded_row(code: u32, fields: &[Token]) -> Option<Row>
         2 => not_row(fields),
         3 => and_row(fields),
         4 => or_row(fields),
+        5 => until_row(fields),
+        6 => since_row(fields),
         9 => yes_row(fields),
         _ => unknown_row(fields),
     }

@@ -71,9 +71,9 @@ module _ {V : Type 0} (o : Ops V) (x : Extend) (plan : Plan) (readings : ℕ →
   -- a row's verdict over a board that holds the rows before it is its verdict
   pub on-board : (i t p n : ℕ) (d : V) (board : List V) → i < length (plan .rows) → t < plan .steps → p < plan .places → index plan i 0 0 ≤ n → Filled plan (verdict o x plan readings) n board → value o x plan readings (shown plan board d) (row-at plan i) t p ≡ verdict o x plan readings i t p
   on-board i t p n d board hi ht hp le filled =
-      says-like o x plan readings (shown plan board d) (verdict o x plan readings) (row-at plan i) i t p (ordered i hi)
-      (λ r hr. filled .stand r t p d ht hp (omega (arith, earlier (plan .steps) (plan .places) r i t p 0 0 hr ht hp)))
-      ∙ sym (settles o x plan readings ordered i t p hi)
+      says-like o x plan readings (shown plan board d) (verdict o x plan readings) (row-at plan i) i t p (ordered i hi) ht hp
+      (λ r u q hr hu hq. filled .stand r u q d hu hq (omega (arith, earlier (plan .steps) (plan .places) r i u q 0 0 hr hu hq)))
+      ∙ sym (settles o x plan readings ordered i t p hi ht hp)
 
   -- one place more
   pub place-drawn : (i t p k : ℕ) (d v : V) (s : Statement) (old board : List V) → s ≡ row-at plan i → i < length (plan .rows) → t < plan .steps → p < plan .places → k ≡ index plan i t p → index plan i t p < length board → v ≡ value o x plan readings (shown plan board d) s t p → Filled plan (verdict o x plan readings) (index plan i t p) board × Beyond (index plan i t p) old board → Filled plan (verdict o x plan readings) (index plan i t (p + 1)) (set board k v) × Beyond (index plan i t (p + 1)) old (set board k v)

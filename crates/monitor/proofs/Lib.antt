@@ -1,4 +1,5 @@
 -- The one sheet, and how a board is filled.
+mod Windows
 pub mod OneSheet
 pub mod Positions
 pub mod Filling

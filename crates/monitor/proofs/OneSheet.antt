@@ -1,20 +1,22 @@
 -- The verdicts are the one and only sheet.
 use mathlib.Core.Path.{_≡_, refl, sym, ap, subst, _∙_}
 use mathlib.Core.Bool.{Bool, true, false, _&&_}
-use Prim.Native.Nat.{ℕ, zero, suc, _≤_, _<_}
+use Prim.Native.Nat.{ℕ, zero, suc, _+_, _-_, _≤_, _<_, min}
 use native.Mathlib.Omega.{arith}
 use lib.Dec.{ltb}
 use lib.ListN.{length}
 use borrow.Author.Tests.{ltb-true}
 use Rattle.reading.specs.Ends.{Ends}
-use Rattle.verdict.specs.Algebra.{Ops}
+use Rattle.verdict.specs.Algebra.{Ops, Laws}
+use Rattle.verdict.proofs.Order.{least-unique}
 use Rattle.network.specs.Measures.{Extend}
 use Rattle.plan.specs.declared.statement.Statement.{Statement}
-use Rattle.plan.specs.declared.statement.Statement.the-variants.{AtLeast, Not, And, Or, Yes}
+use Rattle.plan.specs.declared.statement.Statement.the-variants.{AtLeast, Not, And, Or, Until, Since, Yes}
 use Rattle.plan.specs.Rows.{refers, Ordered}
 use Rattle.plan.specs.Plans.{Plan}
 use Rattle.monitor.specs.Meaning.{Sheet, row-at, Means, IsSheet}
 use Rattle.monitor.specs.Verdicts.{value, below, verdict, OneSheet}
+use Rattle.monitor.proofs.Windows.{windowed-like, later-least, earlier-least}
 
 pub left-of : (a b : Bool) → (a && b) ≡ true → a ≡ true
 left-of true b e = refl
@@ -37,54 +39,79 @@ module _ {V : Type 0} (o : Ops V) (x : Extend) (plan : Plan) (readings : ℕ →
   abbrev settled : Sheet V
   settled = verdict o x plan readings
 
+  -- two sheets agree on the rows before i
+  abbrev pub Agree : ℕ → Sheet V → Sheet V → Type 0
+  Agree i f g = (r t p : ℕ) → r < i → t < plan .steps → p < plan .places → f r t p ≡ g r t p
+
   -- a statement asks only for the rows that it refers to
-  pub says-like : (f g : Sheet V) (s : Statement) (i t p : ℕ) → refers i s ≡ true → ((r : ℕ) → r < i → f r t p ≡ g r t p) → says f s t p ≡ says g s t p
-  says-like f g (AtLeast c k) i t p ref e = refl
-  says-like f g (Not r) i t p ref e = ap (o .neg) (e r (is-below r i ref))
-  says-like f g (And r s) i t p ref e =
-      λ j. o .meet (e r (is-below r i (left-of _ _ ref)) j) (e s (is-below s i (right-of _ _ ref)) j)
-  says-like f g (Or r s) i t p ref e =
-      λ j. o .join (e r (is-below r i (left-of _ _ ref)) j) (e s (is-below s i (right-of _ _ ref)) j)
-  says-like f g Yes i t p ref e = refl
+  pub says-like : (f g : Sheet V) (s : Statement) (i t p : ℕ) → refers i s ≡ true → t < plan .steps → p < plan .places → Agree i f g → says f s t p ≡ says g s t p
+  says-like f g (AtLeast c k) i t p ref ht hp e = refl
+  says-like f g (Not r) i t p ref ht hp e = ap (o .neg) (e r t p (is-below r i ref) ht hp)
+  says-like f g (And r s) i t p ref ht hp e =
+      λ j. o .meet (e r t p (is-below r i (left-of _ _ ref)) ht hp j) (e s t p (is-below s i (right-of _ _ ref)) ht hp j)
+  says-like f g (Or r s) i t p ref ht hp e =
+      λ j. o .join (e r t p (is-below r i (left-of _ _ ref)) ht hp j) (e s t p (is-below s i (right-of _ _ ref)) ht hp j)
+  says-like f g (Until r s a b) i t p ref ht hp e =
+      windowed-like o _ _ _ _ a (min (b + 1) (plan .steps - t))
+      (λ k lt. e r (t + k) p (is-below r i (left-of _ _ ref)) (omega arith) hp)
+      (λ k lt. e s (t + k) p (is-below s i (right-of _ _ ref)) (omega arith) hp)
+  says-like f g (Since r s a b) i t p ref ht hp e =
+      windowed-like o _ _ _ _ a (min (b + 1) (t + 1))
+      (λ k lt. e r (t - k) p (is-below r i (left-of _ _ ref)) (omega arith) hp)
+      (λ k lt. e s (t - k) p (is-below s i (right-of _ _ ref)) (omega arith) hp)
+  says-like f g Yes i t p ref ht hp e = refl
 
   module _ (ordered : Ordered (plan .rows)) where
     -- more turns change nothing
-    same : (n m i t p : ℕ) → i < length (plan .rows) → i < n → i < m → rows-below n i t p ≡ rows-below m i t p
-    same zero m i t p hi hn hm = absurd (omega arith)
-    same (suc n) zero i t p hi hn hm = absurd (omega arith)
-    same (suc n) (suc m) i t p hi hn hm =
-        says-like (rows-below n) (rows-below m) (row-at plan i) i t p (ordered i hi)
-        (λ r hr. same n m r t p (omega arith) (omega arith) (omega arith))
+    same : (n m i t p : ℕ) → i < length (plan .rows) → i < n → i < m → t < plan .steps → p < plan .places → rows-below n i t p ≡ rows-below m i t p
+    same zero m i t p hi hn hm ht hp = absurd (omega arith)
+    same (suc n) zero i t p hi hn hm ht hp = absurd (omega arith)
+    same (suc n) (suc m) i t p hi hn hm ht hp =
+        says-like (rows-below n) (rows-below m) (row-at plan i) i t p (ordered i hi) ht hp
+        (λ r u q hr hu hq. same n m r u q (omega arith) (omega arith) (omega arith) hu hq)
 
-    pub settles : (i t p : ℕ) → i < length (plan .rows) → settled i t p ≡ says settled (row-at plan i) t p
-    settles i t p hi =
-        says-like (rows-below i) settled (row-at plan i) i t p (ordered i hi)
-        (λ r hr. same i (suc r) r t p (omega arith) (omega arith) (omega arith))
+    pub settles : (i t p : ℕ) → i < length (plan .rows) → t < plan .steps → p < plan .places → settled i t p ≡ says settled (row-at plan i) t p
+    settles i t p hi ht hp =
+        says-like (rows-below i) settled (row-at plan i) i t p (ordered i hi) ht hp
+        (λ r u q hr hu hq. same i (suc r) r u q (omega arith) (omega arith) (omega arith) hu hq)
 
-    -- a function that has the value has the meaning, and the other way round
-    value-means : (f : Sheet V) (s : Statement) (t p : ℕ) (v : V) → v ≡ says f s t p → Means o x plan readings f s t p v
-    value-means f (AtLeast c k) t p v e = e
-    value-means f (Not r) t p v e = e
-    value-means f (And r s) t p v e = e
-    value-means f (Or r s) t p v e = e
-    value-means f Yes t p v e = e
+    module _ (ls : Laws o) where
+      -- the value has the meaning
+      value-means : (f : Sheet V) (s : Statement) (t p : ℕ) → t < plan .steps → Means o x plan readings f s t p (says f s t p)
+      value-means f (AtLeast c k) t p ht = refl
+      value-means f (Not r) t p ht = refl
+      value-means f (And r s) t p ht = refl
+      value-means f (Or r s) t p ht = refl
+      value-means f (Until r s a b) t p ht = later-least ls (λ k. f r (t + k) p) (λ k. f s (t + k) p) a (plan .steps) t b ht
+      value-means f (Since r s a b) t p ht = earlier-least ls (λ k. f r (t - k) p) (λ k. f s (t - k) p) a t b
+      value-means f Yes t p ht = refl
 
-    means-value : (f : Sheet V) (s : Statement) (t p : ℕ) (v : V) → Means o x plan readings f s t p v → v ≡ says f s t p
-    means-value f (AtLeast c k) t p v e = e
-    means-value f (Not r) t p v e = e
-    means-value f (And r s) t p v e = e
-    means-value f (Or r s) t p v e = e
-    means-value f Yes t p v e = e
+      -- and nothing else has
+      means-unique : (f : Sheet V) (s : Statement) (t p : ℕ) (v w : V) → Means o x plan readings f s t p v → Means o x plan readings f s t p w → v ≡ w
+      means-unique f (AtLeast c k) t p v w mv mw = mv ∙ sym mw
+      means-unique f (Not r) t p v w mv mw = mv ∙ sym mw
+      means-unique f (And r s) t p v w mv mw = mv ∙ sym mw
+      means-unique f (Or r s) t p v w mv mw = mv ∙ sym mw
+      means-unique f (Until r s a b) t p v w mv mw = least-unique ls mv mw
+      means-unique f (Since r s a b) t p v w mv mw = least-unique ls mv mw
+      means-unique f Yes t p v w mv mw = mv ∙ sym mw
 
-    agrees : (f : Sheet V) → IsSheet o x plan readings f → (n i t p : ℕ) → i < n → i < length (plan .rows) → t < plan .steps → p < plan .places → f i t p ≡ settled i t p
-    agrees f sheet zero i t p hn hi ht hp = absurd (omega arith)
-    agrees f sheet (suc n) i t p hn hi ht hp =
-        means-value f (row-at plan i) t p (f i t p) (sheet .means i t p hi ht hp)
-        ∙ says-like f settled (row-at plan i) i t p (ordered i hi) (λ r hr. agrees f sheet n r t p (omega arith) (omega arith) ht hp)
-        ∙ sym (settles i t p hi)
+      -- the meaning asks only for the rows that the statement refers to
+      means-like : (f g : Sheet V) (s : Statement) (i t p : ℕ) (v : V) → refers i s ≡ true → t < plan .steps → p < plan .places → Agree i f g → Means o x plan readings f s t p v → Means o x plan readings g s t p v
+      means-like f g s i t p v ref ht hp e m =
+          let is : v ≡ says f s t p = means-unique f s t p v (says f s t p) m (value-means f s t p ht) in
+          subst (Means o x plan readings g s t p) (sym (is ∙ says-like f g s i t p ref ht hp e)) (value-means g s t p ht)
 
-    pub one-sheet : OneSheet o x plan readings
-    one-sheet = record {
-      meant = record { means = λ i t p hi ht hp. value-means settled (row-at plan i) t p (settled i t p) (settles i t p hi) };
-      only = λ f sheet i t p hi ht hp. agrees f sheet (suc i) i t p (omega arith) hi ht hp;
-    }
+      agrees : (f : Sheet V) → IsSheet o x plan readings f → (n i t p : ℕ) → i < n → i < length (plan .rows) → t < plan .steps → p < plan .places → f i t p ≡ settled i t p
+      agrees f sheet zero i t p hn hi ht hp = absurd (omega arith)
+      agrees f sheet (suc n) i t p hn hi ht hp =
+          means-unique settled (row-at plan i) t p (f i t p) (says settled (row-at plan i) t p)
+          (means-like f settled (row-at plan i) i t p (f i t p) (ordered i hi) ht hp (λ r u q hr hu hq. agrees f sheet n r u q (omega arith) (omega arith) hu hq) (sheet .means i t p hi ht hp))
+          (value-means settled (row-at plan i) t p ht)
+          ∙ sym (settles i t p hi ht hp)
+
+      pub one-sheet : OneSheet o x plan readings
+      one-sheet = record {
+        meant = record { means = λ i t p hi ht hp. subst (Means o x plan readings settled (row-at plan i) t p) (sym (settles i t p hi ht hp)) (value-means settled (row-at plan i) t p ht) };
+        only = λ f sheet i t p hi ht hp. agrees f sheet (suc i) i t p (omega arith) hi ht hp;
+      }

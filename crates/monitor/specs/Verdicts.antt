@@ -1,14 +1,22 @@
 -- The verdict at every row, step and place, and that it is the one and only sheet.
 use mathlib.Core.Path.{_≡_}
-use Prim.Native.Nat.{ℕ, zero, suc, _<_}
+use mathlib.Core.Bool.{cond}
+use Prim.Native.Nat.{ℕ, zero, suc, _+_, _-_, _<_, min}
+use lib.Dec.{leb}
 use lib.ListN.{length}
 use Rattle.reading.specs.Ends.{Ends}
 use Rattle.verdict.specs.Algebra.{Ops}
 use Rattle.network.specs.Measures.{Extend}
 use Rattle.plan.specs.declared.statement.Statement.{Statement}
-use Rattle.plan.specs.declared.statement.Statement.the-variants.{AtLeast, Not, And, Or, Yes}
+use Rattle.plan.specs.declared.statement.Statement.the-variants.{AtLeast, Not, And, Or, Until, Since, Yes}
 use Rattle.plan.specs.Plans.{Plan, index}
-use Rattle.monitor.specs.Meaning.{Sheet, row-at, IsSheet}
+use Rattle.monitor.specs.Meaning.{Sheet, row-at, throughout, IsSheet}
+
+-- the join, over the numbers k from low to below n, of the meet of s at k with r at 0 to k
+abbrev pub windowed : {V : Type 0} → Ops V → (r s : ℕ → V) (low n : ℕ) → V
+windowed o r s low zero = o .bottom
+windowed o r s low (suc n) =
+    cond (leb low n) (o .join (windowed o r s low n) (o .meet (s n) (throughout o r n))) (windowed o r s low n)
 
 module _ {V : Type 0} (o : Ops V) (x : Extend) (plan : Plan) (readings : ℕ → Ends) where
   -- the verdict of a statement over the verdicts f of the rows before it
@@ -17,6 +25,9 @@ module _ {V : Type 0} (o : Ops V) (x : Extend) (plan : Plan) (readings : ℕ →
   value f (Not r) t p = o .neg (f r t p)
   value f (And r s) t p = o .meet (f r t p) (f s t p)
   value f (Or r s) t p = o .join (f r t p) (f s t p)
+  value f (Until r s a b) t p =
+      windowed o (λ k. f r (t + k) p) (λ k. f s (t + k) p) a (min (b + 1) (plan .steps - t))
+  value f (Since r s a b) t p = windowed o (λ k. f r (t - k) p) (λ k. f s (t - k) p) a (min (b + 1) (t + 1))
   value f Yes t p = o .top
 
   -- the verdicts of the rows below n; a row refers to rows before it, so n turns settle them

@@ -11,6 +11,8 @@ ghost use Rattle.plan.specs.Drafts.{plan-of};
 ghost use Rattle.monitor.specs.Meaning.{row-at};
 ghost use Rattle.monitor.specs.Verdicts.{value, verdict, OneSheet};
 ghost use Rattle.monitor.specs.Boards.{inexact, sheet-refusal, shown, Filled, Beyond, Leaves, Drawn};
+use crate::time::since_at;
+use crate::time::until_at;
 use network::Measure;
 use plan::Draft;
 use plan::Statement;
@@ -60,7 +62,7 @@ fn sheet_refusal<K: Kind, S: Readings>(
 }
 
 // The verdict that stands on the board.
-fn standing<K: Kind>(draft: &Draft, board: &[K], row: u32, step: u32, place: u32) -> K
+pub(crate) fn standing<K: Kind>(draft: &Draft, board: &[K], row: u32, step: u32, place: u32) -> K
     requires { ⌜ index (plan-of (now draft)) row step place < length (now board) ⌝ }
     ensures { λ r. ⌜ r ≡ shown (plan-of (now (draft .entry))) (now (board .entry)) (K·Kind .ops .bottom) row step place ⌝ }
 {
@@ -96,6 +98,18 @@ fn verdict_at<K: Kind, M: Measure, S: Readings>(
             let first = standing(draft, board, left, step, place);
             first.join(standing(draft, board, right, step, place))
         }
+        Statement::Until {
+            hold,
+            goal,
+            from,
+            upto,
+        } => { until_at(draft, hold, goal, from, upto, step, place, board) }
+        Statement::Since {
+            hold,
+            goal,
+            from,
+            upto,
+        } => { since_at(draft, hold, goal, from, upto, step, place, board) }
         Statement::Yes => K::top(),
     }
 }

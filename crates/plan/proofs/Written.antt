@@ -7,22 +7,25 @@ use Rattle.std.proofs.str.Laws.{order}
 use Prim.Native.Nat.{ℕ, zero, suc, _+_, _≤_, _<_}
 use native.Mathlib.Omega.{arith}
 use lib.ListN.{length, getD, length-append}
+use borrow.Author.Tests.{leb-false}
 use Rattle.std.specs.declared.option.Option.{Option}
 use Rattle.std.specs.declared.option.Option.the-variants.{Some, None}
-use Rattle.refusal.specs.declared.Refusal.{Refusal}
-use Rattle.refusal.specs.declared.Refusal.the-variants.{NoSuchRow}
+use Rattle.refusal.proofs.Passing.{passed}
 use Rattle.plan.specs.declared.statement.Statement.{Statement}
 use Rattle.plan.specs.declared.statement.Statement.the-variants.{Yes}
 use Rattle.plan.specs.declared.statement.Row.the-variants.{Known}
 use Rattle.plan.specs.Rows.{refers, Ordered}
-use Rattle.plan.specs.Plans.{Plan, row-refusal}
+use Rattle.plan.specs.Plans.{Plan, row-checks, row-refusal}
 
-past : (b : Bool) (o : Option Refusal) → None ≡ cond (not b) (Some NoSuchRow) o → b ≡ true
-past true o e = refl
-past false o e = absurd (let z : _≡_ {A = ℕ} 0 1 = cc in omega arith)
+holds : (b : Bool) → not b ≡ false → b ≡ true
+holds true e = refl
+holds false e = sym e
 
 pub taken-refers : (plan : Plan) (s : Statement) → None ≡ row-refusal plan (Known s) → refers (length (plan .rows)) s ≡ true
-taken-refers plan s e = past (refers (length (plan .rows)) s) _ e
+taken-refers plan s e = holds (refers (length (plan .rows)) s) (passed (row-checks plan (Known s)) e .0)
+
+pub taken-fits : (plan : Plan) (s : Statement) → None ≡ row-refusal plan (Known s) → length (plan .rows) < 32
+taken-fits plan s e = leb-false 32 (length (plan .rows)) (passed (row-checks plan (Known s)) e .1 .1 .1 .0)
 
 last-of : (xs : List Statement) (s : Statement) → getD (xs ++ s ∷ []) (length xs) Yes ≡ s
 last-of [] s = refl

@@ -6,13 +6,13 @@ use lib.Dec.{leb, ltb}
 use lib.ListN.{length}
 use Rattle.std.specs.declared.option.Option.{Option}
 use Rattle.refusal.specs.declared.Refusal.{Refusal}
-use Rattle.refusal.specs.declared.Refusal.the-variants.{OutsideLimits, NoSuchPlace, NoSuchStep, TooLarge, PipesFull, NoSuchCode, NoSuchRow, NoSuchChannel, RowsFull}
+use Rattle.refusal.specs.declared.Refusal.the-variants.{OutsideLimits, NoSuchPlace, NoSuchStep, TooLarge, PipesFull, NoSuchCode, NoSuchRow, NoSuchChannel, NoInterval, RowsFull}
 use Rattle.refusal.specs.Checks.{Check, first}
 use Rattle.network.specs.declared.pipe.Pipe.{Pipe}
 use Rattle.plan.specs.declared.statement.Statement.{Statement}
 use Rattle.plan.specs.declared.statement.Row.{Row}
 use Rattle.plan.specs.declared.statement.Row.the-variants.{Known, Unknown}
-use Rattle.plan.specs.Rows.{refers, names-channel}
+use Rattle.plan.specs.Rows.{refers, names-channel, has-interval}
 
 -- what has been written of a plan
 pub record Plan : Type 0 where
@@ -72,6 +72,7 @@ row-checks plan Unknown = (true, NoSuchCode) ∷ []
 row-checks plan (Known s) =
     (not (refers (length (plan .rows)) s), NoSuchRow)
     ∷ (not (names-channel (plan .channels) s), NoSuchChannel)
+    ∷ (not (has-interval s), NoInterval)
     ∷ (leb 32 (length (plan .rows)), RowsFull)
     ∷ []
 

@@ -3,12 +3,12 @@ use mathlib.Core.Path.{_≡_}
 use mathlib.Core.Bool.{Bool, true, false, _&&_}
 use mathlib.Core.List.{List}
 use Prim.Native.Nat.{ℕ, _<_}
-use lib.Dec.{ltb}
+use lib.Dec.{leb, ltb}
 use lib.Signed.{leZ}
 use lib.ListN.{length, getD}
 use Rattle.reading.specs.Ends.{lowest, highest}
 use Rattle.plan.specs.declared.statement.Statement.{Statement}
-use Rattle.plan.specs.declared.statement.Statement.the-variants.{AtLeast, Not, And, Or, Yes}
+use Rattle.plan.specs.declared.statement.Statement.the-variants.{AtLeast, Not, And, Or, Until, Since, Yes}
 
 -- every row that the statement refers to is among the first n
 abbrev pub refers : ℕ → Statement → Bool
@@ -16,6 +16,8 @@ refers n (AtLeast channel limit) = true
 refers n (Not r) = ltb r n
 refers n (And r s) = ltb r n && ltb s n
 refers n (Or r s) = ltb r n && ltb s n
+refers n (Until r s a b) = ltb r n && ltb s n
+refers n (Since r s a b) = ltb r n && ltb s n
 refers n Yes = true
 
 -- the channel that the statement reads is one of so many, and its limit lies within the limits of readings
@@ -24,7 +26,19 @@ names-channel channels (AtLeast channel limit) = ltb channel channels && leZ low
 names-channel channels (Not r) = true
 names-channel channels (And r s) = true
 names-channel channels (Or r s) = true
+names-channel channels (Until r s a b) = true
+names-channel channels (Since r s a b) = true
 names-channel channels Yes = true
+
+-- a statement over time has a lower end that is not above its upper end, and no step above 63
+abbrev pub has-interval : Statement → Bool
+has-interval (AtLeast channel limit) = true
+has-interval (Not r) = true
+has-interval (And r s) = true
+has-interval (Or r s) = true
+has-interval (Until r s a b) = leb a b && leb b 63
+has-interval (Since r s a b) = leb a b && leb b 63
+has-interval Yes = true
 
 -- every row refers only to rows before it
 abbrev pub Ordered : List Statement → Type 0

@@ -4,7 +4,7 @@ ghost use Prim.Native.Nat.{_*_};
 ghost use lib.ListN.{length};
 ghost use Rattle.std.specs.Vec.{made};
 ghost use Rattle.refusal.specs.Checks.{answer, leaves};
-ghost use Rattle.plan.specs.Rows.{refers, names-channel};
+ghost use Rattle.plan.specs.Rows.{refers, names-channel, has-interval};
 ghost use Rattle.plan.specs.Plans.{size-refusal, within-most, opened, pipe-refusal, with-pipe, row-refusal, with-row, cells, index};
 ghost use Rattle.plan.specs.Drafts.{plan-of};
 use crate::draft::Draft;
@@ -41,6 +41,8 @@ fn refers_below(statement: Statement, count: u32) -> bool
         Statement::Not { row } => row < count,
         Statement::And { left, right } => left < count && right < count,
         Statement::Or { left, right } => left < count && right < count,
+        Statement::Until { hold, goal, .. } => hold < count && goal < count,
+        Statement::Since { hold, goal, .. } => hold < count && goal < count,
         Statement::Yes => true,
     }
 }
@@ -53,6 +55,17 @@ fn reads_channel(statement: Statement, channels: u32) -> bool
         Statement::AtLeast { channel, limit } => {
             channel < channels && -1_000_000 <= limit && limit <= 1_000_000
         }
+        _ => true,
+    }
+}
+
+// Whether the steps that the statement looks ahead or back make an interval, and are few enough.
+fn spans_steps(statement: Statement) -> bool
+    ensures { λ r. ⌜ r ≡ has-interval statement ⌝ }
+{
+    match statement {
+        Statement::Until { from, upto, .. } => from <= upto && upto <= 63,
+        Statement::Since { from, upto, .. } => from <= upto && upto <= 63,
         _ => true,
     }
 }
@@ -125,6 +138,9 @@ impl Draft {
         }
         if !reads_channel(statement, self.channels) {
             return Some(Refusal::NoSuchChannel);
+        }
+        if !spans_steps(statement) {
+            return Some(Refusal::NoInterval);
         }
         if count >= MOST_ROWS {
             return Some(Refusal::RowsFull);

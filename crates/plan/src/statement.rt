@@ -4,10 +4,35 @@
 #[derive(Clone, Copy)]
 pub enum Statement {
     // the channel's reading is at least the limit
-    AtLeast { channel: u32, limit: i32 },
-    Not { row: u32 },
-    And { left: u32, right: u32 },
-    Or { left: u32, right: u32 },
+    AtLeast {
+        channel: u32,
+        limit: i32,
+    },
+    Not {
+        row: u32,
+    },
+    And {
+        left: u32,
+        right: u32,
+    },
+    Or {
+        left: u32,
+        right: u32,
+    },
+    // the goal holds at a step `from` to `upto` steps later, and `hold` at every step from now to then
+    Until {
+        hold: u32,
+        goal: u32,
+        from: u32,
+        upto: u32,
+    },
+    // the goal held at a step `from` to `upto` steps ago, and `hold` at every step from then to now
+    Since {
+        hold: u32,
+        goal: u32,
+        from: u32,
+        upto: u32,
+    },
     Yes,
 }
 

@@ -1,7 +1,7 @@
 -- The number of each refusal.
 use Prim.Native.Nat.{ℕ}
 use Rattle.refusal.specs.declared.Refusal.{Refusal}
-use Rattle.refusal.specs.declared.Refusal.the-variants.{OutsideLimits, NoSuchPlace, NoSuchStep, TooLarge, PipesFull, NoSuchCode, NoSuchRow, NoSuchChannel, RowsFull, OtherCells, NoSuchCell, NoRange, NotInside, StoreFull, NoRow, ShortBoard, ShortWork, NotExact, NoLetter, Misspelt, OutOfPlace}
+use Rattle.refusal.specs.declared.Refusal.the-variants.{OutsideLimits, NoSuchPlace, NoSuchStep, TooLarge, PipesFull, NoSuchCode, NoSuchRow, NoSuchChannel, NoInterval, RowsFull, OtherCells, NoSuchCell, NoRange, NotInside, StoreFull, NoRow, ShortBoard, ShortWork, NotExact, NoLetter, Misspelt, OutOfPlace}
 
 abbrev pub number : Refusal → ℕ
 number OutsideLimits = 1
@@ -12,6 +12,7 @@ number PipesFull = 5
 number NoSuchCode = 6
 number NoSuchRow = 7
 number NoSuchChannel = 8
+number NoInterval = 9
 number RowsFull = 10
 number OtherCells = 11
 number NoSuchCell = 12

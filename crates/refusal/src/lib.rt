@@ -21,6 +21,8 @@ pub enum Refusal {
     NoSuchRow,
     // a row names no channel, or its limit lies beyond the limits of readings
     NoSuchChannel,
+    // a row's lower end is above its upper end, or a step is above 63
+    NoInterval,
     // 32 rows stand
     RowsFull,
     // the store's cells are not those of the plan
@@ -63,6 +65,7 @@ impl Refusal {
             Refusal::NoSuchCode => 6,
             Refusal::NoSuchRow => 7,
             Refusal::NoSuchChannel => 8,
+            Refusal::NoInterval => 9,
             Refusal::RowsFull => 10,
             Refusal::OtherCells => 11,
             Refusal::NoSuchCell => 12,

@@ -1,1 +1,2 @@
--- Nothing is shared between proofs.
+-- What the order of a kind has, whatever the kind.
+pub mod Order

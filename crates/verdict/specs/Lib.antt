@@ -1,5 +1,6 @@
 -- What verdicts mean.
 pub mod Algebra
+pub mod Least
 pub mod Linear
 pub mod YesNo
 pub mod Margins

@@ -18,7 +18,7 @@ returns-in-Some g c =
     record {
       answers = ap answer (c .in-Some .ensures tt);
       leaves = leaves-some plan (verdict (g .K·Kind .ops) (g .M·Measure .extend) plan ranges) (c .args .board .now) (c .args .work .now) _ (c .in-Some .refusal) (c .in-Some .ensures tt);
-      meaning = one-sheet (g .K·Kind .ops) (g .M·Measure .extend) plan ranges (c .args .draft .now .ordered);
+      meaning = one-sheet (g .K·Kind .ops) (g .M·Measure .extend) plan ranges (c .args .draft .now .ordered) (g .K·Kind .laws);
     }
 
 pub draw-rows-requires : need.draw-rows-requires
@@ -31,5 +31,5 @@ returns g c =
     record {
       answers = ap answer (c .in-rest .ensures tt);
       leaves = leaves-none plan (verdict (g .K·Kind .ops) (g .M·Measure .extend) plan ranges) _ _ _ _ _ (c .in-rest .ensures tt) (c .draw-rows .ensures);
-      meaning = one-sheet (g .K·Kind .ops) (g .M·Measure .extend) plan ranges (c .args .draft .now .ordered);
+      meaning = one-sheet (g .K·Kind .ops) (g .M·Measure .extend) plan ranges (c .args .draft .now .ordered) (g .K·Kind .laws);
     }

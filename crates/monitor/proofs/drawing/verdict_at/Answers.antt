@@ -1,19 +1,24 @@
 use mathlib.Core.Path.{_≡_}
 use mathlib.Core.Bool.{true}
-use Prim.Native.Nat.{ℕ, _≤_, _<_}
+use Prim.Native.Nat.{ℕ, _+_, _≤_, _<_}
 use native.Mathlib.Omega.{arith}
 use lib.Dec.{ltb}
 use lib.ListN.{length}
 use Rattle.plan.specs.Plans.{Plan, index}
 use Rattle.plan.specs.Drafts.{plan-of}
 use Rattle.monitor.proofs.OneSheet.{is-below, left-of, right-of}
-use Rattle.monitor.proofs.Positions.{earlier}
+use Rattle.monitor.proofs.Positions.{earlier, within-all}
 use Rattle.monitor.proofs.drawing.verdict_at.Needs as need
 
 -- an earlier row stands within the board
 within : (plan : Plan) (r i t p room : ℕ) → ltb r i ≡ true → t < plan .steps → p < plan .places → index plan i 0 0 ≤ room → index plan r t p < room
 within plan r i t p room e ht hp le =
     omega (arith, earlier (plan .steps) (plan .places) r i t p 0 0 (is-below r i e) ht hp)
+
+-- so does the whole of it
+within-rows : (plan : Plan) (r i room : ℕ) → ltb r i ≡ true → index plan i 0 0 ≤ room → index plan (r + 1) 0 0 ≤ room
+within-rows plan r i room e le =
+    omega (arith, within-all (plan .steps) (plan .places) (r + 1) i (omega (arith, is-below r i e)))
 
 pub standing-requires : need.standing-requires
 standing-requires g c κs =
@@ -34,3 +39,19 @@ standing-first-requires-in-Or g c κs =
 pub standing-requires-in-Or : need.standing-requires-in-Or
 standing-requires-in-Or g c κs =
     within (plan-of (c .args .draft .now)) (c .in-Or .right) (c .args .row) (c .args .step) (c .args .place) (length (c .args .board .now)) (right-of _ _ (rw (c .in-Or .is) at (c .pre .refers))) (c .pre .step) (c .pre .place) (c .pre .room)
+
+pub until-at-requires : need.until-at-requires
+until-at-requires g c κs = record {
+  step = c .pre .step;
+  place = c .pre .place;
+  hold = within-rows (plan-of (c .args .draft .now)) (c .in-Until .hold) (c .args .row) (length (c .args .board .now)) (left-of _ _ (rw (c .in-Until .is) at (c .pre .refers))) (c .pre .room);
+  goal = within-rows (plan-of (c .args .draft .now)) (c .in-Until .goal) (c .args .row) (length (c .args .board .now)) (right-of _ _ (rw (c .in-Until .is) at (c .pre .refers))) (c .pre .room);
+}
+
+pub since-at-requires : need.since-at-requires
+since-at-requires g c κs = record {
+  step = c .pre .step;
+  place = c .pre .place;
+  hold = within-rows (plan-of (c .args .draft .now)) (c .in-Since .hold) (c .args .row) (length (c .args .board .now)) (left-of _ _ (rw (c .in-Since .is) at (c .pre .refers))) (c .pre .room);
+  goal = within-rows (plan-of (c .args .draft .now)) (c .in-Since .goal) (c .args .row) (length (c .args .board .now)) (right-of _ _ (rw (c .in-Since .is) at (c .pre .refers))) (c .pre .room);
+}

@@ -1,0 +1,2 @@
+-- What follows where no check refuses.
+pub mod Passing
