@@ -6,5 +6,4 @@ use verdict::Kind;
 // Until from 1 to 2 at the last step is bottom.
 pub fn until_is_bottom_at_the_end<K: Kind, M: Measure>()
     ensures { λ _. ⌜ BottomAtTheEnd (K·Kind .ops) (M·Measure .extend) ⌝ }
-{
-}
+{}
