@@ -11,10 +11,10 @@ use Rattle.std.specs.declared.result.Result.{Result}
 use Rattle.std.specs.declared.result.Result.the-variants.{Ok, Err}
 use Rattle.refusal.specs.declared.Refusal.{Refusal}
 use Rattle.refusal.specs.declared.Refusal.the-variants.{NoLetter, Misspelt, OutOfPlace}
-use Rattle.plan.specs.declared.statement.Statement.the-variants.{AtLeast, Not, And, Or, Until, Since, Yes}
+use Rattle.plan.specs.declared.statement.Statement.the-variants.{AtLeast, Not, And, Or, Until, Since, Reach, Yes}
 use Rattle.plan.specs.declared.statement.Row.{Row}
 use Rattle.plan.specs.declared.statement.Row.the-variants.{Known, Unknown}
-use Rattle.line.specs.Line.{Field, misspelt, natural, integer, fields}
+use Rattle.line.specs.Line.{Field, misspelt, natural, integer, fields, number, minus}
 use Rattle.command.specs.declared.part.Part.{Part}
 use Rattle.command.specs.declared.part.Part.the-variants.{Blank, Drafting, Sealed}
 use Rattle.command.specs.declared.sheet.SheetKind.{SheetKind}
@@ -77,6 +77,22 @@ until-row fs = given (row-window fs) (λ w. Some (Known (Until (w .0) (w .1) (w 
 abbrev pub since-row : List Field → Option Row
 since-row fs = given (row-window fs) (λ w. Some (Known (Since (w .0) (w .1) (w .2) (w .3))))
 
+-- an upper distance, which a lone minus leaves out
+abbrev pub upper : Field → Option (Option ℕ)
+upper (number z) = given (natural (number z)) (λ n. Some (Some n))
+upper minus = Some None
+upper misspelt = None
+
+-- r s d1 d2
+abbrev pub reach-row : List Field → Option Row
+reach-row fs =
+    cond (eqb (length fs) 4)
+    (given (natural (at fs 0)) (λ r.
+    given (natural (at fs 1)) (λ s.
+    given (natural (at fs 2)) (λ a.
+    given (upper (at fs 3)) (λ b. Some (Known (Reach r s a b)))))))
+    None
+
 -- no fields
 abbrev pub yes-row : List Field → Option Row
 yes-row fs = cond (eqb (length fs) 0) (Some (Known Yes)) None
@@ -98,8 +114,9 @@ coded code fs =
     (cond (eqb code 4) (or-row fs)
     (cond (eqb code 5) (until-row fs)
     (cond (eqb code 6) (since-row fs)
+    (cond (eqb code 7) (reach-row fs)
     (cond (eqb code 9) (yes-row fs)
-    (unknown-row fs)))))))
+    (unknown-row fs))))))))
 
 -- the row of a code, which is not negative, and its fields
 abbrev pub written : List Field → Option Row

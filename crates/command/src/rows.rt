@@ -2,7 +2,7 @@
 ghost use mathlib.Core.Path.{_≡_};
 ghost use mathlib.Core.List.{map};
 ghost use Rattle.line.specs.Line.{token-field};
-ghost use Rattle.command.specs.Commands.{at-least-row, not-row, row-pair, and-row, or-row, row-window, until-row, since-row, yes-row, numbers, unknown-row, coded, written};
+ghost use Rattle.command.specs.Commands.{at-least-row, not-row, row-pair, and-row, or-row, row-window, until-row, since-row, upper, reach-row, yes-row, numbers, unknown-row, coded, written};
 use line::Token;
 use plan::Row;
 use plan::Statement;
@@ -95,6 +95,31 @@ fn since_row(fields: &[Token]) -> Option<Row>
     }))
 }
 
+// An upper distance, which a lone minus leaves out.
+fn upper_distance(token: Token) -> Option<Option<u32>>
+    ensures { λ r. ⌜ r ≡ upper (token-field (token .entry)) ⌝ }
+{
+    if let Token::Minus = token {
+        return Some(None);
+    }
+    Some(Some(token.natural()?))
+}
+
+// `r s d1 d2`
+fn reach_row(fields: &[Token]) -> Option<Row>
+    ensures { λ r. ⌜ r ≡ reach-row (map token-field (now (fields .entry))) ⌝ }
+{
+    let [through, goal, from, upto] = fields else {
+        return None;
+    };
+    Some(Row::Known(Statement::Reach {
+        through: through.natural()?,
+        goal: goal.natural()?,
+        from: from.natural()?,
+        upto: upper_distance(*upto)?,
+    }))
+}
+
 fn yes_row(fields: &[Token]) -> Option<Row>
     ensures { λ r. ⌜ r ≡ yes-row (map token-field (now (fields .entry))) ⌝ }
 {
@@ -136,6 +161,7 @@ fn coded_row(code: u32, fields: &[Token]) -> Option<Row>
         4 => or_row(fields),
         5 => until_row(fields),
         6 => since_row(fields),
+        7 => reach_row(fields),
         9 => yes_row(fields),
         _ => unknown_row(fields),
     }

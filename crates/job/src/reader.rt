@@ -1,12 +1,6 @@
 // Reading a job line by line.
 ghost use mathlib.Core.Path.{_≡_};
-ghost use mathlib.Core.List.{List, [], _∷_};
-ghost use Prim.Native.Nat.{ℕ, _+_, _<_};
-ghost use lib.ListN.{length};
 ghost use Rattle.std.specs.Vec.{made};
-ghost use Rattle.std.specs.Options.{Cases as BySome};
-ghost use Rattle.line.specs.Line.{lines as linesOf};
-ghost use Rattle.command.specs.Commands.{command as commandOf};
 ghost use Rattle.job.specs.Reading.{Told};
 use command::Command;
 use command::Part;

@@ -2,28 +2,30 @@
 use mathlib.Core.Path.{_≡_, refl, sym, ap, subst, _∙_}
 use mathlib.Core.Logic.{_⊎_, inl, inr, _≢_}
 use mathlib.Core.List.{List}
-use mathlib.Core.Bool.{Bool, true, false, cond}
+use mathlib.Core.Bool.{Bool, true}
 use Prim.Native.Nat.{ℕ, suc, _+_, _*_, _≤_, _<_}
 use native.Mathlib.Omega.{arith}
 use lib.ListN.{length, getD, set}
 use lib.Seq.{getD-set-same, getD-set-other}
-use lib.Dec.{eqb, ltb}
 use borrow.Author.Tests.{ltb-false}
 use Rattle.std.proofs.str.Laws.{order}
 use Rattle.std.specs.declared.option.Option.{Option}
 use Rattle.std.specs.declared.option.Option.the-variants.{Some, None}
 use Rattle.refusal.specs.declared.Refusal.{Refusal}
-use Rattle.refusal.specs.declared.Refusal.the-variants.{NoRow, ShortBoard}
+use Rattle.refusal.proofs.Passing.{passed}
 use Rattle.reading.specs.Ends.{Ends}
 use Rattle.verdict.specs.Algebra.{Ops}
 use Rattle.network.specs.Measures.{Extend}
+use Rattle.space.specs.Levels.{reached}
 use Rattle.plan.specs.declared.statement.Statement.{Statement}
+use Rattle.plan.specs.declared.statement.Statement.the-variants.{AtLeast, Not, And, Or, Until, Since, Reach, Yes}
 use Rattle.plan.specs.Rows.{refers, Ordered}
 use Rattle.plan.specs.Plans.{Plan, index}
 use Rattle.monitor.specs.Meaning.{Sheet, row-at}
 use Rattle.monitor.specs.Verdicts.{value, verdict}
-use Rattle.monitor.specs.Boards.{area, shown, sheet-refusal, Filled, Beyond, Drawn, Leaves}
-use Rattle.monitor.proofs.OneSheet.{says-like, settles}
+use Rattle.monitor.specs.Boards.{area, shown, sheet-checks, sheet-refusal, Filled, Beyond, Drawn, Leaves, Prepared}
+use Rattle.monitor.proofs.Columns.{column-like}
+use Rattle.monitor.proofs.OneSheet.{is-below, left-of, right-of, says-like, settles}
 use Rattle.monitor.proofs.Positions.{earlier, injective, next-place, start}
 
 plus-none : (n : ℕ) → n + 0 ≡ n
@@ -90,11 +92,30 @@ module _ {V : Type 0} (plan : Plan) (f : Sheet V) where
   pub leaves-none : (old new work work′ : List V) (o : Option Refusal) → None ≡ o → Drawn plan f old new → Leaves o plan f old new work work′
   leaves-none old new work work′ o is d = subst (λ r. Leaves r plan f old new work work′) is d
 
+-- an accepted sheet has room in its work
+pub work-for : (plan : Plan) (readings : ℕ → Ends) (ranged : Bool) (board work : ℕ) → None ≡ sheet-refusal plan readings ranged board work → 256 * plan .places ≤ work
+work-for plan readings ranged board work e =
+    ltb-false work (256 * plan .places) (passed (sheet-checks plan readings ranged board work) e .1 .1 .0)
+
 -- an accepted sheet has room on its board
 pub room-for : (plan : Plan) (readings : ℕ → Ends) (ranged : Bool) (board work : ℕ) → None ≡ sheet-refusal plan readings ranged board work → index plan (length (plan .rows)) 0 0 ≤ board
-room-for plan readings ranged board work e = go (eqb (length (plan .rows)) 0) (ltb board (area plan)) refl _ e
-  where
-    go : (b c : Bool) → ltb board (area plan) ≡ c → (o : Option Refusal) → None ≡ cond b (Some NoRow) (cond c (Some ShortBoard) o) → index plan (length (plan .rows)) 0 0 ≤ board
-    go true c ec o h = absurd (let z : _≡_ {A = ℕ} 0 1 = cc in omega arith)
-    go false true ec o h = absurd (let z : _≡_ {A = ℕ} 0 1 = cc in omega arith)
-    go false false ec o h = omega (arith, ltb-false board (area plan) ec, first-past plan)
+room-for plan readings ranged board work e =
+    omega (arith, ltb-false board (area plan) (passed (sheet-checks plan readings ranged board work) e .1 .0), first-past plan)
+
+-- what is prepared for a statement does not depend on its own row
+pub prepared-like : {V : Type 0} (o : Ops V) (x : Extend) (plan : Plan) (f g : Sheet V) (t : ℕ) (work : List V) (s : Statement) (i : ℕ) → refers i s ≡ true → ((r p : ℕ) → r < i → p < plan .places → f r t p ≡ g r t p) → Prepared o x plan f t work s → Prepared o x plan g t work s
+prepared-like o x plan f g t work (AtLeast c k) i ref e h = h
+prepared-like o x plan f g t work (Not r) i ref e h = h
+prepared-like o x plan f g t work (And r s) i ref e h = h
+prepared-like o x plan f g t work (Or r s) i ref e h = h
+prepared-like o x plan f g t work (Until r s a b) i ref e h = h
+prepared-like o x plan f g t work (Since r s a b) i ref e h = h
+prepared-like o x plan f g t work (Reach r s a b) i ref e h = λ p hp.
+    h p hp ∙ (λ j. reached o x t (plan .pipes) (column-like (plan .places) (f r t) (g r t) (λ k lt. e r k (is-below r i (left-of _ _ ref)) lt) j) (column-like (plan .places) (f s t) (g s t) (λ k lt. e s k (is-below s i (right-of _ _ ref)) lt) j) a b p)
+prepared-like o x plan f g t work Yes i ref e h = h
+
+-- writing a verdict leaves the rows before it
+pub row-kept : {V : Type 0} (plan : Plan) (board : List V) (d v : V) (i t p k : ℕ) → k ≡ index plan i t p → (r u q : ℕ) → r < i → u < plan .steps → q < plan .places → shown plan board d r u q ≡ shown plan (set board k v) d r u q
+row-kept plan board d v i t p k at-k r u q hr hu hq =
+    let ne : index plan r u q ≢ k = omega (arith, earlier (plan .steps) (plan .places) r i u q t p hr hu hq) in
+    sym (getD-set-other board k (index plan r u q) v d ne)

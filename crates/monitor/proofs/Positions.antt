@@ -3,6 +3,10 @@ use mathlib.Core.Path.{_≡_, refl, sym, ap, _∙_}
 use Prim.Native.Nat.{ℕ, suc, _+_, _*_, _/_, _%_, _≤_, _<_}
 use native.Mathlib.Nat.{mul-le-mul-right, add-mul, one-mul}
 use native.Mathlib.Omega.{arith}
+use mathlib.Core.Bool.{true}
+use lib.Dec.{ltb}
+use borrow.Author.Tests.{ltb-true}
+use Rattle.plan.specs.Plans.{Plan, index}
 use lib.Arith.{digits-div, digits-mod}
 
 module _ (S P : ℕ) where
@@ -54,3 +58,13 @@ module _ (S P : ℕ) where
         sym (digits-mod i ht) ∙ ap (λ n. n % S) line ∙ digits-mod j hu,
         sym (digits-mod (i * S + t) hp) ∙ ap (λ n. n % P) e ∙ digits-mod (j * S + u) hq,
       )
+
+-- an earlier row stands within the board
+pub within : (plan : Plan) (r i t p room : ℕ) → ltb r i ≡ true → t < plan .steps → p < plan .places → index plan i 0 0 ≤ room → index plan r t p < room
+within plan r i t p room e ht hp le =
+    omega (arith, earlier (plan .steps) (plan .places) r i t p 0 0 (ltb-true r i e) ht hp)
+
+-- so does the whole of it
+pub within-rows : (plan : Plan) (r i room : ℕ) → ltb r i ≡ true → index plan i 0 0 ≤ room → index plan (r + 1) 0 0 ≤ room
+within-rows plan r i room e le =
+    omega (arith, within-all (plan .steps) (plan .places) (r + 1) i (omega (arith, ltb-true r i e)))

@@ -12,7 +12,13 @@ use Rattle.refusal.specs.declared.Refusal.the-variants.{NoRow, ShortBoard, Shor
 use Rattle.refusal.specs.Checks.{Check, first}
 use Rattle.reading.specs.Ends.{Ends, is-exact}
 use Rattle.plan.specs.Plans.{Plan, cells, index}
+use Rattle.verdict.specs.Algebra.{Ops}
+use Rattle.network.specs.Measures.{Extend}
+use Rattle.space.specs.Levels.{gathered, reached}
+use Rattle.plan.specs.declared.statement.Statement.{Statement}
+use Rattle.plan.specs.declared.statement.Statement.the-variants.{AtLeast, Not, And, Or, Until, Since, Reach, Yes}
 use Rattle.monitor.specs.Meaning.{Sheet}
+use Rattle.monitor.specs.Verdicts.{column}
 
 -- how many verdicts a sheet has
 abbrev pub area : Plan → ℕ
@@ -61,3 +67,16 @@ pub record Drawn {V : Type 0} (plan : Plan) (f : Sheet V) (old new : List V) : T
 abbrev pub Leaves : {V : Type 0} → Option Refusal → Plan → Sheet V → (old new : List V) → (old-work new-work : List V) → Type 0
 Leaves None plan f old new old-work new-work = Drawn plan f old new
 Leaves (Some e) plan f old new old-work new-work = (new ≡ old) × (new-work ≡ old-work)
+
+-- the work holds what a statement's verdicts at step t are taken from: for reach the levels of distance, for the others nothing
+module _ {V : Type 0} (o : Ops V) (x : Extend) (plan : Plan) (f : Sheet V) (t : ℕ) (work : List V) where
+  abbrev pub Prepared : Statement → Type 0
+  Prepared (AtLeast c k) = Unit {0}
+  Prepared (Not r) = Unit {0}
+  Prepared (And r s) = Unit {0}
+  Prepared (Or r s) = Unit {0}
+  Prepared (Until r s a b) = Unit {0}
+  Prepared (Since r s a b) = Unit {0}
+  Prepared (Reach r s a b) =
+      (p : ℕ) → p < plan .places → gathered o (plan .places) work a b p ≡ reached o x t (plan .pipes) (column (plan .places) (f r t)) (column (plan .places) (f s t)) a b p
+  Prepared Yes = Unit {0}

@@ -1,14 +1,17 @@
 -- The verdict at every row, step and place, and that it is the one and only sheet.
 use mathlib.Core.Path.{_≡_}
 use mathlib.Core.Bool.{cond}
+use mathlib.Core.List.{List, map}
+use Rattle.std.specs.Iters.{counting}
 use Prim.Native.Nat.{ℕ, zero, suc, _+_, _-_, _<_, min}
 use lib.Dec.{leb}
 use lib.ListN.{length}
 use Rattle.reading.specs.Ends.{Ends}
 use Rattle.verdict.specs.Algebra.{Ops}
 use Rattle.network.specs.Measures.{Extend}
+use Rattle.space.specs.Levels.{reached}
 use Rattle.plan.specs.declared.statement.Statement.{Statement}
-use Rattle.plan.specs.declared.statement.Statement.the-variants.{AtLeast, Not, And, Or, Until, Since, Yes}
+use Rattle.plan.specs.declared.statement.Statement.the-variants.{AtLeast, Not, And, Or, Until, Since, Reach, Yes}
 use Rattle.plan.specs.Plans.{Plan, index}
 use Rattle.monitor.specs.Meaning.{Sheet, row-at, throughout, IsSheet}
 
@@ -17,6 +20,10 @@ abbrev pub windowed : {V : Type 0} → Ops V → (r s : ℕ → V) (low n : ℕ)
 windowed o r s low zero = o .bottom
 windowed o r s low (suc n) =
     cond (leb low n) (o .join (windowed o r s low n) (o .meet (s n) (throughout o r n))) (windowed o r s low n)
+
+-- the verdicts at the places below n
+abbrev pub column : {V : Type 0} → ℕ → (ℕ → V) → List V
+column n f = map f (counting 0 n)
 
 module _ {V : Type 0} (o : Ops V) (x : Extend) (plan : Plan) (readings : ℕ → Ends) where
   -- the verdict of a statement over the verdicts f of the rows before it
@@ -28,6 +35,8 @@ module _ {V : Type 0} (o : Ops V) (x : Extend) (plan : Plan) (readings : ℕ →
   value f (Until r s a b) t p =
       windowed o (λ k. f r (t + k) p) (λ k. f s (t + k) p) a (min (b + 1) (plan .steps - t))
   value f (Since r s a b) t p = windowed o (λ k. f r (t - k) p) (λ k. f s (t - k) p) a (min (b + 1) (t + 1))
+  value f (Reach r s a b) t p =
+      reached o x t (plan .pipes) (column (plan .places) (f r t)) (column (plan .places) (f s t)) a b p
   value f Yes t p = o .top
 
   -- the verdicts of the rows below n; a row refers to rows before it, so n turns settle them

@@ -1,22 +1,24 @@
 // Drawing a sheet, for every verdict kind, measure and source of ranges.
 ghost use mathlib.Core.Path.{_≡_};
 ghost use mathlib.Core.Bool.{true};
-ghost use Prim.Native.Nat.{_+_, _≤_, _<_};
+ghost use Prim.Native.Nat.{_+_, _*_, _≤_, _<_};
 ghost use lib.ListN.{length};
 ghost use Rattle.refusal.specs.Checks.{answer};
 ghost use Rattle.store.specs.Stored.{at};
-ghost use Rattle.plan.specs.Rows.{refers};
+ghost use Rattle.plan.specs.Rows.{refers, has-interval};
 ghost use Rattle.plan.specs.Plans.{cells, index};
 ghost use Rattle.plan.specs.Drafts.{plan-of};
 ghost use Rattle.monitor.specs.Meaning.{row-at};
 ghost use Rattle.monitor.specs.Verdicts.{value, verdict, OneSheet};
-ghost use Rattle.monitor.specs.Boards.{inexact, sheet-refusal, shown, Filled, Beyond, Leaves, Drawn};
+ghost use Rattle.monitor.specs.Boards.{inexact, sheet-refusal, shown, Filled, Beyond, Prepared, Leaves, Drawn};
+use crate::space_rows::prepare;
 use crate::time::since_at;
 use crate::time::until_at;
 use network::Measure;
 use plan::Draft;
 use plan::Statement;
 use refusal::Refusal;
+use space::level_verdict;
 use store::Readings;
 use verdict::Kind;
 
@@ -78,11 +80,15 @@ fn verdict_at<K: Kind, M: Measure, S: Readings>(
     step: u32,
     place: u32,
     board: &[K],
+    work: &[K],
 ) -> K
     requires refers { ⌜ refers row statement ≡ true ⌝ }
     requires step { ⌜ step < now draft .steps ⌝ }
     requires place { ⌜ place < now draft .places ⌝ }
+    requires interval { ⌜ has-interval statement ≡ true ⌝ }
     requires room { ⌜ index (plan-of (now draft)) row 0 0 ≤ length (now board) ⌝ }
+    requires work { ⌜ 256 * now draft .places ≤ length (now work) ⌝ }
+    requires prepared { ⌜ Prepared (K·Kind .ops) (M·Measure .extend) (plan-of (now draft)) (shown (plan-of (now draft)) (now board) (K·Kind .ops .bottom)) step (now work) statement ⌝ }
     ensures { λ r. ⌜ r ≡ value (K·Kind .ops) (M·Measure .extend) (plan-of (now (draft .entry))) (at (S·Readings .ranges (now (readings .entry)))) (shown (plan-of (now (draft .entry))) (now (board .entry)) (K·Kind .ops .bottom)) statement step place ⌝ }
 {
     match statement {
@@ -110,6 +116,9 @@ fn verdict_at<K: Kind, M: Measure, S: Readings>(
             from,
             upto,
         } => { since_at(draft, hold, goal, from, upto, step, place, board) }
+        Statement::Reach { from, upto, .. } => {
+            level_verdict(work, draft.places() as usize, from, upto, place as usize)
+        }
         Statement::Yes => K::top(),
     }
 }
@@ -122,17 +131,29 @@ fn draw_step<K: Kind, M: Measure, S: Readings>(
     row: u32,
     step: u32,
     board: &mut [K],
+    work: &mut [K],
 )
     requires is { ⌜ statement ≡ row-at (plan-of (now draft)) row ⌝ }
     requires row { ⌜ row < length (plan-of (now draft) .rows) ⌝ }
     requires step { ⌜ step < now draft .steps ⌝ }
     requires room { ⌜ index (plan-of (now draft)) row (step + 1) 0 ≤ length (now board) ⌝ }
+    requires work { ⌜ 256 * now draft .places ≤ length (now work) ⌝ }
     requires filled { ⌜ Filled (plan-of (now draft)) (verdict (K·Kind .ops) (M·Measure .extend) (plan-of (now draft)) (at (S·Readings .ranges (now readings)))) (index (plan-of (now draft)) row step 0) (now board) ⌝ }
     ensures filled { λ _. ⌜ Filled (plan-of (now (draft .entry))) (verdict (K·Kind .ops) (M·Measure .extend) (plan-of (now (draft .entry))) (at (S·Readings .ranges (now (readings .entry))))) (index (plan-of (now (draft .entry))) row (step + 1) 0) (now (board .exit)) ⌝ }
     ensures beyond { λ _. ⌜ Beyond (index (plan-of (now (draft .entry))) row (step + 1) 0) (now (board .entry)) (now (board .exit)) ⌝ }
 {
+    prepare::<K, M>(draft, statement, row, step, board, work);
     for place in 0..draft.places() {
-        let verdict = verdict_at::<K, M, S>(draft, readings, statement, row, step, place, board);
+        let verdict = verdict_at::<K, M, S>(
+            draft,
+            readings,
+            statement,
+            row,
+            step,
+            place,
+            board,
+            work,
+        );
         board[draft.index(row, step, place)] = verdict;
     }
 }
@@ -144,26 +165,34 @@ fn draw_row<K: Kind, M: Measure, S: Readings>(
     statement: Statement,
     row: u32,
     board: &mut [K],
+    work: &mut [K],
 )
     requires is { ⌜ statement ≡ row-at (plan-of (now draft)) row ⌝ }
     requires row { ⌜ row < length (plan-of (now draft) .rows) ⌝ }
     requires room { ⌜ index (plan-of (now draft)) (row + 1) 0 0 ≤ length (now board) ⌝ }
+    requires work { ⌜ 256 * now draft .places ≤ length (now work) ⌝ }
     requires filled { ⌜ Filled (plan-of (now draft)) (verdict (K·Kind .ops) (M·Measure .extend) (plan-of (now draft)) (at (S·Readings .ranges (now readings)))) (index (plan-of (now draft)) row 0 0) (now board) ⌝ }
     ensures filled { λ _. ⌜ Filled (plan-of (now (draft .entry))) (verdict (K·Kind .ops) (M·Measure .extend) (plan-of (now (draft .entry))) (at (S·Readings .ranges (now (readings .entry))))) (index (plan-of (now (draft .entry))) (row + 1) 0 0) (now (board .exit)) ⌝ }
     ensures beyond { λ _. ⌜ Beyond (index (plan-of (now (draft .entry))) (row + 1) 0 0) (now (board .entry)) (now (board .exit)) ⌝ }
 {
     for step in 0..draft.steps() {
-        draw_step::<K, M, S>(draft, readings, statement, row, step, board);
+        draw_step::<K, M, S>(draft, readings, statement, row, step, board, work);
     }
 }
 
 // The verdicts of all rows, each over the rows before it.
-fn draw_rows<K: Kind, M: Measure, S: Readings>(draft: &Draft, readings: &S, board: &mut [K])
+fn draw_rows<K: Kind, M: Measure, S: Readings>(
+    draft: &Draft,
+    readings: &S,
+    board: &mut [K],
+    work: &mut [K],
+)
     requires room { ⌜ index (plan-of (now draft)) (length (plan-of (now draft) .rows)) 0 0 ≤ length (now board) ⌝ }
+    requires work { ⌜ 256 * now draft .places ≤ length (now work) ⌝ }
     ensures { λ _. ⌜ Drawn (plan-of (now (draft .entry))) (verdict (K·Kind .ops) (M·Measure .extend) (plan-of (now (draft .entry))) (at (S·Readings .ranges (now (readings .entry))))) (now (board .entry)) (now (board .exit)) ⌝ }
 {
     for (row, statement) in draft.rows().iter().enumerate() {
-        draw_row::<K, M, S>(draft, readings, *statement, row as u32, board);
+        draw_row::<K, M, S>(draft, readings, *statement, row as u32, board, work);
     }
 }
 
@@ -181,6 +210,6 @@ pub fn draw<K: Kind, M: Measure, S: Readings>(
     if let Some(refusal) = sheet_refusal::<K, S>(draft, readings, board.len(), work.len()) {
         return Err(refusal);
     }
-    draw_rows::<K, M, S>(draft, readings, board);
+    draw_rows::<K, M, S>(draft, readings, board, work);
     Ok(())
 }

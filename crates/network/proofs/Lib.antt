@@ -1,0 +1,2 @@
+-- Pipes that join places.
+pub mod Joining

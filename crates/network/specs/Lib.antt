@@ -1,2 +1,3 @@
 -- What measures are.
 pub mod Measures
+pub mod Routes

@@ -1,7 +1,10 @@
 // The draft of a plan, with what is true of every draft.
 ghost use Prim.Native.Nat.{_≤_};
 ghost use Rattle.std.specs.Of.Vec.{vec-items, vec-len, vec-cap};
-ghost use Rattle.plan.specs.Rows.{Ordered};
+ghost use mathlib.Core.Path.{_≡_};
+ghost use mathlib.Core.Bool.{true};
+ghost use Rattle.network.specs.Routes.{all-join};
+ghost use Rattle.plan.specs.Rows.{Ordered, Intervals};
 use crate::statement::Statement;
 use network::Pipe;
 
@@ -23,5 +26,7 @@ pub struct Draft {
     ghost pipe_room: { 255 ≤ vec-cap pipes },
     ghost few_rows: { vec-len rows ≤ 32 },
     ghost row_room: { 32 ≤ vec-cap rows },
+    ghost joined: { all-join places (vec-items pipes) ≡ true },
     ghost ordered: { Ordered (vec-items rows) },
+    ghost intervals: { Intervals (vec-items rows) },
 }

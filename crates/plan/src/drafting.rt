@@ -4,7 +4,7 @@ ghost use Prim.Native.Nat.{_*_};
 ghost use lib.ListN.{length};
 ghost use Rattle.std.specs.Vec.{made};
 ghost use Rattle.refusal.specs.Checks.{answer, leaves};
-ghost use Rattle.plan.specs.Rows.{refers, names-channel, has-interval};
+ghost use Rattle.plan.specs.Rows.{refers, names-channel, are-distances, has-interval};
 ghost use Rattle.plan.specs.Plans.{size-refusal, within-most, opened, pipe-refusal, with-pipe, row-refusal, with-row, cells, index};
 ghost use Rattle.plan.specs.Drafts.{plan-of};
 use crate::draft::Draft;
@@ -43,6 +43,7 @@ fn refers_below(statement: Statement, count: u32) -> bool
         Statement::Or { left, right } => left < count && right < count,
         Statement::Until { hold, goal, .. } => hold < count && goal < count,
         Statement::Since { hold, goal, .. } => hold < count && goal < count,
+        Statement::Reach { through, goal, .. } => through < count && goal < count,
         Statement::Yes => true,
     }
 }
@@ -59,13 +60,24 @@ fn reads_channel(statement: Statement, channels: u32) -> bool
     }
 }
 
-// Whether the steps that the statement looks ahead or back make an interval, and are few enough.
-fn spans_steps(statement: Statement) -> bool
+// Whether distances make an interval, and are short enough. An absent upper distance bounds nothing.
+fn spans_distances(from: u32, upto: Option<u32>) -> bool
+    ensures { λ r. ⌜ r ≡ are-distances from upto ⌝ }
+{
+    match upto {
+        Some(most) => from <= most && most <= 127,
+        None => from <= 127,
+    }
+}
+
+// Whether the steps or distances of a statement make an interval, and are small enough.
+fn spans_interval(statement: Statement) -> bool
     ensures { λ r. ⌜ r ≡ has-interval statement ⌝ }
 {
     match statement {
         Statement::Until { from, upto, .. } => from <= upto && upto <= 63,
         Statement::Since { from, upto, .. } => from <= upto && upto <= 63,
+        Statement::Reach { from, upto, .. } => spans_distances(from, upto),
         _ => true,
     }
 }
@@ -139,7 +151,7 @@ impl Draft {
         if !reads_channel(statement, self.channels) {
             return Some(Refusal::NoSuchChannel);
         }
-        if !spans_steps(statement) {
+        if !spans_interval(statement) {
             return Some(Refusal::NoInterval);
         }
         if count >= MOST_ROWS {
@@ -194,6 +206,13 @@ impl Draft {
     {
         let line = number as usize * self.steps as usize + step as usize;
         line * self.places as usize + place as usize
+    }
+
+    // The pipes, in the order in which they were laid.
+    pub fn pipes(&self) -> &[Pipe]
+        ensures { λ r. ⌜ now r ≡ plan-of (now (self .entry)) .pipes ⌝ }
+    {
+        self.pipes.as_slice()
     }
 
     // The rows, in the order of their numbers.

@@ -33,6 +33,13 @@ pub enum Statement {
         from: u32,
         upto: u32,
     },
+    // a place where the goal holds is reached through places where `through` holds, over a distance from `from` to `upto`
+    Reach {
+        through: u32,
+        goal: u32,
+        from: u32,
+        upto: Option<u32>,
+    },
     Yes,
 }
 

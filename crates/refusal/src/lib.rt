@@ -21,7 +21,7 @@ pub enum Refusal {
     NoSuchRow,
     // a row names no channel, or its limit lies beyond the limits of readings
     NoSuchChannel,
-    // a row's lower end is above its upper end, or a step is above 63
+    // a row's lower end is above its upper end, a step is above 63, or a distance above 127
     NoInterval,
     // 32 rows stand
     RowsFull,

@@ -15,6 +15,7 @@ draw-step-requires g c κs = record {
   row = c .pre .row;
   step = omega arith;
   room = omega (arith, within-row (c .args .draft .now .steps) (c .args .draft .now .places) (c .args .row) (c .loop-step .step + 1) (omega arith));
+  work = omega (arith, c .loop-step .kept .work, c .pre .work);
   filled = c .loop-step .inv .0;
 }
 

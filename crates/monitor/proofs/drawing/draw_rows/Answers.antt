@@ -21,6 +21,7 @@ draw-row-requires g c κs =
       is = search (needs, getD-read);
       row = omega (arith, long);
       room = omega (arith, within-all (c .args .draft .now .steps) (c .args .draft .now .places) (c .loop-row .row + 1) (length (vec-items (c .args .draft .now .rows))) (omega (arith, long)));
+      work = omega (arith, c .loop-row .kept .work, c .pre .work);
       filled = c .loop-row .inv .0;
     }
 

@@ -6,19 +6,9 @@ use lib.Dec.{ltb}
 use lib.ListN.{length}
 use Rattle.plan.specs.Plans.{Plan, index}
 use Rattle.plan.specs.Drafts.{plan-of}
-use Rattle.monitor.proofs.OneSheet.{is-below, left-of, right-of}
-use Rattle.monitor.proofs.Positions.{earlier, within-all}
+use Rattle.monitor.proofs.OneSheet.{left-of, right-of}
+use Rattle.monitor.proofs.Positions.{within, within-rows}
 use Rattle.monitor.proofs.drawing.verdict_at.Needs as need
-
--- an earlier row stands within the board
-within : (plan : Plan) (r i t p room : ℕ) → ltb r i ≡ true → t < plan .steps → p < plan .places → index plan i 0 0 ≤ room → index plan r t p < room
-within plan r i t p room e ht hp le =
-    omega (arith, earlier (plan .steps) (plan .places) r i t p 0 0 (is-below r i e) ht hp)
-
--- so does the whole of it
-within-rows : (plan : Plan) (r i room : ℕ) → ltb r i ≡ true → index plan i 0 0 ≤ room → index plan (r + 1) 0 0 ≤ room
-within-rows plan r i room e le =
-    omega (arith, within-all (plan .steps) (plan .places) (r + 1) i (omega (arith, is-below r i e)))
 
 pub standing-requires : need.standing-requires
 standing-requires g c κs =
