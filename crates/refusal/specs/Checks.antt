@@ -16,11 +16,6 @@ abbrev pub answer : Option Refusal → Result (Unit {0}) Refusal
 answer None = Ok tt
 answer (Some e) = Err e
 
--- what a call answers that has something to hand over
-abbrev pub handed : {A : Type 0} → Option Refusal → A → Result A Refusal
-handed None a = Ok a
-handed (Some e) a = Err e
-
 -- what a call leaves: the old where it is refused, else the new
 abbrev pub leaves : {A : Type 0} → Option Refusal → A → A → A
 leaves None old new = new

@@ -1,7 +1,5 @@
-// Rows over space: reach and escape at one step, by levels of distance in lent work.
-mod escape;
+// Rows over space: reach at one step, by levels of distance in lent work.
 mod levels;
 mod reach;
 
-pub use escape::escape_row;
-pub use reach::reach_row;
+pub use reach::{fill_levels, level_verdict};

@@ -1,8 +1,6 @@
 // Stores: what is known of every cell, and how more becomes known.
-mod made;
 mod readings;
 mod table;
 
-pub use made::NewStore;
 pub use readings::{Readings, Store};
 pub use table::Table;

@@ -1,7 +1,5 @@
-// Surveys: a plan that is sealed together with a store takes entries, holds and give-backs, and gives sheets.
-mod hold;
+// Surveys: a plan that is sealed together with a store takes entries and gives sheets.
 mod sealed;
 mod surveying;
 
-pub use hold::{Hold, Returned};
 pub use sealed::Survey;
