@@ -1,4 +1,6 @@
 // Reads a line of a job as a command.
+#![tactic(auto)]
+
 mod command;
 mod forms;
 mod part;

@@ -1,4 +1,6 @@
 // Jobs: from the bytes of a job to the text that it prints.
+#![tactic(auto)]
+
 mod loops;
 mod reader;
 mod sheets;

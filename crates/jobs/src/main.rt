@@ -1,4 +1,6 @@
 // Runs each job that is named as an argument, and compares what it prints with what it should print.
+#![tactic(auto)]
+
 use job::run_job;
 use std::{env, fs, io};
 

@@ -1,4 +1,6 @@
 // The monitor: draws the verdicts of a plan's rows on a board.
+#![tactic(auto)]
+
 mod cases;
 mod drawing;
 mod space_rows;

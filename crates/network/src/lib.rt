@@ -1,4 +1,6 @@
 // The network: pipes, and the measures of distance along them.
+#![tactic(auto)]
+
 mod measure;
 mod pipe;
 

@@ -1,4 +1,6 @@
 // Plans: a draft takes pipes and rows, and nothing else.
+#![tactic(auto)]
+
 mod draft;
 mod drafting;
 mod statement;

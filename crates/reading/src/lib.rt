@@ -1,4 +1,6 @@
 // Readings: what is known of a level is a range.
+#![tactic(auto)]
+
 mod range;
 mod ranges;
 

@@ -1,4 +1,6 @@
 // Why a call is refused, and the number that stands for each reason.
+#![tactic(auto)]
+
 ghost use Rattle.std.specs.Prelude.{◌≡◌};
 ghost use Rattle.refusal.specs.Numbers.{number as number_of};
 

@@ -1,4 +1,6 @@
 // Reports: refusals and sheets as text.
+#![tactic(auto)]
+
 mod sheets;
 
 pub use sheets::{report_sheet, write_refusal};

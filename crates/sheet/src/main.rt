@@ -1,4 +1,6 @@
 // The program `sheet`: a job comes in by standard input, and what it prints goes to standard output.
+#![tactic(auto)]
+
 use job::run_job;
 use std::io;
 use std::io::{Read, Write};

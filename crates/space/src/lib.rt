@@ -1,4 +1,6 @@
 // Rows over space: reach at one step, by levels of distance in lent work.
+#![tactic(auto)]
+
 mod levels;
 mod reach;
 

@@ -1,4 +1,6 @@
 // Stores: what is known of every cell, and how more becomes known.
+#![tactic(auto)]
+
 mod readings;
 mod table;
 

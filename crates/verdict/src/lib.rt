@@ -1,4 +1,6 @@
 // Verdicts: yes or no, a margin, or the span of a kind.
+#![tactic(auto)]
+
 mod kind;
 mod limit;
 mod margin;
