@@ -16,6 +16,6 @@ returns-then-rest-ge-MOST-BYTES c = grind (arith, nat_tests)
 
 pub returns : goal.returns
 returns c =
-    let e = ap (option_map (λ v. map token_field (vec_items v))) (sym c.in-Some.is) ∙ c.in-ok-tokens.ensures in
-    c.read-form.ensures
-    ∙ short c.args.letter c.args.rest.now c.as-slice.result.now (vec_items c.in-Some.tokens) (omega arith) c.as-slice.ensures.value e
+    let e = ap (option_map (λ v. map token_field (vec_items v))) (sym c.in-Some.is) ∙ c.in_ok-tokens.ensures in
+    c.read_form.ensures
+    ∙ short c.args.letter c.args.rest.now c.as_slice.result.now (vec_items c.in-Some.tokens) (omega arith) c.as_slice.ensures.value e

@@ -13,13 +13,13 @@ turn ts i d r lt e inv =
     ∙ sym (at_drop_more (λ l. numbers (map token_field l)) ts i d lt)
     ∙ inv
 
-pub returns-then-is-none : goal.returns-then-is-none
-returns-then-is-none c =
-    turn c.args.fields.now c.loop-field.field-index _ _ (omega arith) (ap is_some (sym c.integer.ensures) ∙ c.if-is-none.ensures) c.loop-field.invariant
+pub returns-then-is_none : goal.returns-then-is_none
+returns-then-is_none c =
+    turn c.args.fields.now c.loop-field.field-index _ _ (omega arith) (ap is_some (sym c.integer.ensures) ∙ c.if-is_none.ensures) c.loop-field.invariant
 
 pub loop-field-preserved : goal.loop-field-preserved
 loop-field-preserved c =
-    turn c.args.fields.now c.loop-field.field-index _ _ (omega arith) (ap is_some (sym c.integer.ensures) ∙ c.if-is-none.ensures) c.loop-field.invariant
+    turn c.args.fields.now c.loop-field.field-index _ _ (omega arith) (ap is_some (sym c.integer.ensures) ∙ c.if-is_none.ensures) c.loop-field.invariant
 
 pub returns : goal.returns
 returns c =

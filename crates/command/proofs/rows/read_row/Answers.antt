@@ -3,6 +3,6 @@ use Rattle.std.proofs.Common.{sym, ◌∙◌}
 use Rattle.command.proofs.Tokens.{no_row}
 use Rattle.command.proofs.rows.read_row.Goals as goal
 
-pub returns-in-err-code : goal.returns-in-err-code
-returns-in-err-code c =
-    c.from-residual.ensures ∙ sym (no_row c.args.tokens.now c.in-err-code.ensures.cases)
+pub returns-in_err-code : goal.returns-in_err-code
+returns-in_err-code c =
+    c.from-residual.ensures ∙ sym (no_row c.args.tokens.now c.in_err-code.ensures.cases)

@@ -7,11 +7,11 @@ use Rattle.command.proofs.rows.upper_distance.Goals as goal
 bounded : Option ℕ → Option (Option ℕ)
 bounded o = given o (λ n. Some (Some n))
 
-pub returns-in-err-natural : goal.returns-in-err-natural
+pub returns-in_err-natural : goal.returns-in_err-natural
 unfolding bounded
-returns-in-err-natural c =
-    c.from-residual.ensures ∙ ap bounded c.in-err-natural.ensures ∙ number_upper c.args.token c.in-default.not-Minus
+returns-in_err-natural c =
+    c.from-residual.ensures ∙ ap bounded c.in_err-natural.ensures ∙ number_upper c.args.token c.in_default.not-Minus
 
 pub returns : goal.returns
 unfolding bounded
-returns c = ap bounded c.in-ok-natural.ensures ∙ number_upper c.args.token c.in-default.not-Minus
+returns c = ap bounded c.in_ok-natural.ensures ∙ number_upper c.args.token c.in_default.not-Minus

@@ -6,8 +6,8 @@ use Rattle.job.proofs.loops.await_draft.Goals as goal
 
 pub loop-answer-preserved : goal.loop-answer-preserved
 loop-answer-preserved c = (
-  c.next-command.ensures.part ∙ c.loop-answer.invariant.0,
-  loop_turn c.loop-answer.reader.part (string_bytes c.loop-answer.out) (string_bytes c.blank-turn.new.out) c.loop-answer.reader.lines.number c.next-command.new.self.lines.number c.line.result blank blank (opened_stage c.in-ok-draft.field-0) c.loop-answer.reader.lines.rest.now c.next-command.new.self.lines.rest.now c.in-ok-answer.field-0 c.in-Some.answer
-      c.in-ok-answer.ensures.told c.in-Some.is c.loop-answer.invariant.0 c.line.ensures (ap opened_stage c.in-default-2.is) c.in-ok-draft.ensures
+  c.next_command.ensures.part ∙ c.loop-answer.invariant.0,
+  loop_turn c.loop-answer.reader.part (string_bytes c.loop-answer.out) (string_bytes c.blank_turn.new.out) c.loop-answer.reader.lines.number c.next_command.new.self.lines.number c.line.result blank blank (opened_stage c.in_ok-draft.field-0) c.loop-answer.reader.lines.rest.now c.next_command.new.self.lines.rest.now c.in_ok-answer.field-0 c.in-Some.answer
+      c.in_ok-answer.ensures.told c.in-Some.is c.loop-answer.invariant.0 c.line.ensures (ap opened_stage c.in_default-2.is) c.in_ok-draft.ensures
       ∙ c.loop-answer.invariant.1,
 )

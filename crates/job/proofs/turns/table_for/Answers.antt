@@ -12,12 +12,12 @@ pub returns-in-Err : goal.returns-in-Err
 returns-in-Err c =
     let plan = plan_of c.args.draft.now in
     let size : c.min.result ≡ table_cells plan = c.min.ensures ∙ ap (λ n. min n 1024) c.cells.ensures in
-    not_sealed c.args.line plan (length (table_of c.in-ok-table.table).ranges) c.in-Err.refusal (string_bytes c.args.out.now) (string_bytes c.write-refusal.new.out)
-    (ap (λ s. length s.ranges) c.in-ok-table.ensures ∙ length-replicate c.min.result widest ∙ size) c.in-Err.ensures c.in-ok-write-refusal.ensures
+    not_sealed c.args.line plan (length (table_of c.in_ok-table.table).ranges) c.in-Err.refusal (string_bytes c.args.out.now) (string_bytes c.write_refusal.new.out)
+    (ap (λ s. length s.ranges) c.in_ok-table.ensures ∙ length-replicate c.min.result widest ∙ size) c.in-Err.ensures c.in_ok-write_refusal.ensures
 
 pub returns : goal.returns
 returns c =
     let plan = plan_of c.args.draft.now in
     let size : c.min.result ≡ table_cells plan = c.min.ensures ∙ ap (λ n. min n 1024) c.cells.ensures in
-    is_sealed c.args.line plan (length (table_of c.in-ok-table.table).ranges) (table_of c.in-ok-table.table) _
-    (ap (λ s. length s.ranges) c.in-ok-table.ensures ∙ length-replicate c.min.result widest ∙ size) c.in-default.ensures (c.in-ok-table.ensures ∙ ap (λ n. fresh n n) size)
+    is_sealed c.args.line plan (length (table_of c.in_ok-table.table).ranges) (table_of c.in_ok-table.table) _
+    (ap (λ s. length s.ranges) c.in_ok-table.ensures ∙ length-replicate c.min.result widest ∙ size) c.in_default.ensures (c.in_ok-table.ensures ∙ ap (λ n. fresh n n) size)

@@ -5,5 +5,5 @@ use Rattle.line.proofs.words.read_tokens.Goals as goal
 
 pub loop-rest-preserved : goal.loop-rest-preserved
 loop-rest-preserved c =
-    let said = c.first-of.ensures in
-    one_read c.args.text.now c.loop-rest.rest.now c.tail-after.result.now c.split-at.result.0.now c.split-at.result.1.now c.first-of.result (vec_items c.loop-rest.tokens) (vec_items c.push.new.self) c.read-token.result (search rules) (search rules) c.tail-after.ensures said.none said.found said.within c.split-at.ensures.front c.split-at.ensures.back c.read-token.ensures c.in-ok-push.ensures.items c.loop-rest.invariant
+    let said = c.first_of.ensures in
+    one_read c.args.text.now c.loop-rest.rest.now c.tail-after.result.now c.split_at.result.0.now c.split_at.result.1.now c.first_of.result (vec_items c.loop-rest.tokens) (vec_items c.push.new.self) c.read_token.result (search rules) (search rules) c.tail-after.ensures said.none said.found said.within c.split_at.ensures.front c.split_at.ensures.back c.read_token.ensures c.in_ok-push.ensures.items c.loop-rest.invariant

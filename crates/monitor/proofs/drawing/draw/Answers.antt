@@ -19,10 +19,10 @@ returns-in-Some g c =
       meaning = one_sheet g.K.Kind.ops g.M.Measure.extend plan ranges c.args.draft.now.ordered g.K.Kind.laws g.M.Measure.laws (all_joined _ _ c.args.draft.now.joined) c.args.draft.now.intervals;
     }
 
-pub draw-rows-requires : goal.draw-rows-requires
-draw-rows-requires g c = record {
-  room = room_for (plan_of c.args.draft.now) (at (g.S.Readings.ranges c.args.readings.now)) g.K.Kind.ops.ranged _ _ c.in-default.ensures;
-  work = work_for (plan_of c.args.draft.now) (at (g.S.Readings.ranges c.args.readings.now)) g.K.Kind.ops.ranged _ _ c.in-default.ensures;
+pub draw_rows-requires : goal.draw_rows-requires
+draw_rows-requires g c = record {
+  room = room_for (plan_of c.args.draft.now) (at (g.S.Readings.ranges c.args.readings.now)) g.K.Kind.ops.ranged _ _ c.in_default.ensures;
+  work = work_for (plan_of c.args.draft.now) (at (g.S.Readings.ranges c.args.readings.now)) g.K.Kind.ops.ranged _ _ c.in_default.ensures;
 }
 
 pub returns : goal.returns
@@ -30,7 +30,7 @@ returns g c =
     let plan = plan_of c.args.draft.now in
     let ranges = at (g.S.Readings.ranges c.args.readings.now) in
     record {
-      answers = ap answer c.in-default.ensures;
-      leaves = leaves_none plan (verdict g.K.Kind.ops g.M.Measure.extend plan ranges) _ _ _ _ _ c.in-default.ensures c.draw-rows.ensures;
+      answers = ap answer c.in_default.ensures;
+      leaves = leaves_none plan (verdict g.K.Kind.ops g.M.Measure.extend plan ranges) _ _ _ _ _ c.in_default.ensures c.draw_rows.ensures;
       meaning = one_sheet g.K.Kind.ops g.M.Measure.extend plan ranges c.args.draft.now.ordered g.K.Kind.laws g.M.Measure.laws (all_joined _ _ c.args.draft.now.joined) c.args.draft.now.intervals;
     }

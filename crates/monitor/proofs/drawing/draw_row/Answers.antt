@@ -7,8 +7,8 @@ use Rattle.monitor.specs.Boards.{Filled, Beyond}
 use Rattle.monitor.proofs.Positions.{within_row, next_row}
 use Rattle.monitor.proofs.drawing.draw_row.Goals as goal
 
-pub draw-step-requires : goal.draw-step-requires
-draw-step-requires g c = record {
+pub draw_step-requires : goal.draw_step-requires
+draw_step-requires g c = record {
   is = c.requires.is;
   row = c.requires.row;
   step = omega arith;

@@ -9,8 +9,8 @@ use Rattle.monitor.proofs.Positions.{within_all}
 use Rattle.monitor.proofs.Filling.{drawn}
 use Rattle.monitor.proofs.drawing.draw_rows.Goals as goal
 
-pub draw-row-requires : goal.draw-row-requires
-draw-row-requires g c =
+pub draw_row-requires : goal.draw_row-requires
+draw_row-requires g c =
     let long : length c.rows-statement-items.result.now ≡ length (vec_items c.args.draft.now.rows) = ap length c.rows-statement-items.ensures in
     record {
       is = search (rules, get_or_read);

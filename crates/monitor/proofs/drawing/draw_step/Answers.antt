@@ -18,8 +18,8 @@ prepare-requires g c = record {
   work = c.requires.work;
 }
 
-pub verdict-at-verdict-requires : goal.verdict-at-verdict-requires
-verdict-at-verdict-requires g c = record {
+pub verdict_at-verdict-requires : goal.verdict_at-verdict-requires
+verdict_at-verdict-requires g c = record {
   refers = ap (refers c.args.row) c.requires.is ∙ c.args.draft.now.ordered c.args.row c.requires.row;
   step = c.requires.step;
   place = omega arith;
@@ -34,11 +34,11 @@ loop-place-preserved g c =
     let plan = plan_of c.args.draft.now in
     let ref : refers c.args.row c.args.statement ≡ true = ap (refers c.args.row) c.requires.is ∙ c.args.draft.now.ordered c.args.row c.requires.row in
     let t = place_drawn g.K.Kind.ops g.M.Measure.extend plan (at (g.S.Readings.ranges c.args.readings.now)) c.args.draft.now.ordered
-    c.args.row c.args.step c.loop-place.place c.index.result g.K.Kind.ops.bottom c.verdict-at-verdict.result c.args.statement c.args.board.now c.loop-place.board
-    c.requires.is c.requires.row c.requires.step (omega arith) c.index.ensures (omega (arith, next_step plan.steps plan.places c.args.row c.args.step)) c.verdict-at-verdict.ensures (c.loop-place.invariant.0, c.loop-place.invariant.1) in (
+    c.args.row c.args.step c.loop-place.place c.index.result g.K.Kind.ops.bottom c.verdict_at-verdict.result c.args.statement c.args.board.now c.loop-place.board
+    c.requires.is c.requires.row c.requires.step (omega arith) c.index.ensures (omega (arith, next_step plan.steps plan.places c.args.row c.args.step)) c.verdict_at-verdict.ensures (c.loop-place.invariant.0, c.loop-place.invariant.1) in (
       t.0,
       t.1,
-      prepared_like g.K.Kind.ops g.M.Measure.extend plan (shown plan c.loop-place.board g.K.Kind.ops.bottom) (shown plan (set c.loop-place.board c.index.result c.verdict-at-verdict.result) g.K.Kind.ops.bottom) c.args.step c.prepare.new.work c.args.statement c.args.row ref
-          (λ r p hr hp. row_kept plan c.loop-place.board g.K.Kind.ops.bottom c.verdict-at-verdict.result c.args.row c.args.step c.loop-place.place c.index.result c.index.ensures r c.args.step p hr c.requires.step hp)
+      prepared_like g.K.Kind.ops g.M.Measure.extend plan (shown plan c.loop-place.board g.K.Kind.ops.bottom) (shown plan (set c.loop-place.board c.index.result c.verdict_at-verdict.result) g.K.Kind.ops.bottom) c.args.step c.prepare.new.work c.args.statement c.args.row ref
+          (λ r p hr hp. row_kept plan c.loop-place.board g.K.Kind.ops.bottom c.verdict_at-verdict.result c.args.row c.args.step c.loop-place.place c.index.result c.index.ensures r c.args.step p hr c.requires.step hp)
           c.loop-place.invariant.2,
     )

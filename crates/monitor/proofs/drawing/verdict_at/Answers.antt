@@ -25,16 +25,16 @@ pub standing-requires-in-Or : goal.standing-requires-in-Or
 standing-requires-in-Or g c =
     within (plan_of c.args.draft.now) c.in-Or.right c.args.row c.args.step c.args.place (length c.args.board.now) (right_of _ _ (rw c.in-Or.is at c.requires.refers)) c.requires.step c.requires.place c.requires.room
 
-pub until-at-requires : goal.until-at-requires
-until-at-requires g c = record {
+pub until_at-requires : goal.until_at-requires
+until_at-requires g c = record {
   step = c.requires.step;
   place = c.requires.place;
   hold = within_rows (plan_of c.args.draft.now) c.in-Until.hold c.args.row (length c.args.board.now) (left_of _ _ (rw c.in-Until.is at c.requires.refers)) c.requires.room;
   goal = within_rows (plan_of c.args.draft.now) c.in-Until.goal c.args.row (length c.args.board.now) (right_of _ _ (rw c.in-Until.is at c.requires.refers)) c.requires.room;
 }
 
-pub since-at-requires : goal.since-at-requires
-since-at-requires g c = record {
+pub since_at-requires : goal.since_at-requires
+since_at-requires g c = record {
   step = c.requires.step;
   place = c.requires.place;
   hold = within_rows (plan_of c.args.draft.now) c.in-Since.hold c.args.row (length c.args.board.now) (left_of _ _ (rw c.in-Since.is at c.requires.refers)) c.requires.room;

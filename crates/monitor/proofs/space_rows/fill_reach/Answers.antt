@@ -8,15 +8,15 @@ use Rattle.monitor.specs.Boards.{shown}
 use Rattle.monitor.proofs.Columns.{column_length, small}
 use Rattle.monitor.proofs.space_rows.fill_reach.Goals as goal
 
-pub fill-levels-requires : goal.fill-levels-requires
-fill-levels-requires g c =
+pub fill_levels-requires : goal.fill_levels-requires
+fill_levels-requires g c =
     let f = shown (plan_of c.args.draft.now) c.args.board.now g.K.Kind.ops.bottom in
     let n = c.args.draft.now.places in
-    let r : length c.row-at-step-through-row.result.now ≡ n = ap length c.row-at-step-through-row.ensures ∙ column_length n (f c.args.through c.args.step) in
-    let s : length c.row-at-step-goal-row.result.now ≡ n = ap length c.row-at-step-goal-row.ensures ∙ column_length n (f c.args.goal c.args.step) in
+    let r : length c.row_at_step-through_row.result.now ≡ n = ap length c.row_at_step-through_row.ensures ∙ column_length n (f c.args.through c.args.step) in
+    let s : length c.row_at_step-goal_row.result.now ≡ n = ap length c.row_at_step-goal_row.ensures ∙ column_length n (f c.args.goal c.args.step) in
     let all = all_joined n (plan_of c.args.draft.now).pipes c.args.draft.now.joined in
     record {
-      joined = subst (λ ps. Joined (length c.row-at-step-through-row.result.now) ps) (sym c.pipes.ensures) (subst (λ m. Joined m (plan_of c.args.draft.now).pipes) (sym r) all);
+      joined = subst (λ ps. Joined (length c.row_at_step-through_row.result.now) ps) (sym c.pipes.ensures) (subst (λ m. Joined m (plan_of c.args.draft.now).pipes) (sym r) all);
       goal = s ∙ sym r;
       work = omega (arith, r, c.requires.work);
       near = small c.args.from c.args.upto c.requires.interval;
@@ -26,7 +26,7 @@ pub returns : goal.returns
 returns g c p hp =
     let f = shown (plan_of c.args.draft.now) c.args.board.now g.K.Kind.ops.bottom in
     let n = c.args.draft.now.places in
-    let r : length c.row-at-step-through-row.result.now ≡ n = ap length c.row-at-step-through-row.ensures ∙ column_length n (f c.args.through c.args.step) in
-    ap (λ m. gathered g.K.Kind.ops m c.fill-levels.new.work c.args.from c.args.upto p) (sym r)
-    ∙ c.fill-levels.ensures.value p (omega (arith, r))
-    ∙ (λ j. reached g.K.Kind.ops g.M.Measure.extend c.args.step (c.pipes.ensures j) (c.row-at-step-through-row.ensures j) (c.row-at-step-goal-row.ensures j) c.args.from c.args.upto p)
+    let r : length c.row_at_step-through_row.result.now ≡ n = ap length c.row_at_step-through_row.ensures ∙ column_length n (f c.args.through c.args.step) in
+    ap (λ m. gathered g.K.Kind.ops m c.fill_levels.new.work c.args.from c.args.upto p) (sym r)
+    ∙ c.fill_levels.ensures.value p (omega (arith, r))
+    ∙ (λ j. reached g.K.Kind.ops g.M.Measure.extend c.args.step (c.pipes.ensures j) (c.row_at_step-through_row.ensures j) (c.row_at_step-goal_row.ensures j) c.args.from c.args.upto p)

@@ -12,19 +12,19 @@ ends : (plan : Plan) (i t room : ℕ) → t < plan.steps → index plan (i + 1) 
 ends plan i t room ht le =
     omega (arith, next_step plan.steps plan.places i t, within_row plan.steps plan.places i (t + 1) (omega arith))
 
-pub split-at-requires : goal.split-at-requires
-split-at-requires g c =
+pub split_at-requires : goal.split_at-requires
+split_at-requires g c =
     omega (arith, c.index.ensures, ends (plan_of c.args.draft.now) c.args.row c.args.step (length c.args.board.now) c.requires.step c.requires.room)
 
-pub split-at-requires-2 : goal.split-at-requires-2
-split-at-requires-2 g c =
-    omega (arith, c.index.ensures, c.places.ensures, c.split-at.ensures.back_len, ends (plan_of c.args.draft.now) c.args.row c.args.step (length c.args.board.now) c.requires.step c.requires.room)
+pub split_at-requires-2 : goal.split_at-requires-2
+split_at-requires-2 g c =
+    omega (arith, c.index.ensures, c.places.ensures, c.split_at.ensures.back_len, ends (plan_of c.args.draft.now) c.args.row c.args.step (length c.args.board.now) c.requires.step c.requires.room)
 
 pub returns : goal.returns
 returns g c =
-    fill_by_all (shown (plan_of c.args.draft.now) c.args.board.now g.K.Kind.ops.bottom c.args.row c.args.step) c.split-at-2.result.0.now c.args.draft.now.places g.K.Kind.ops.bottom
-    (c.split-at-2.ensures.front-len ∙ c.places.ensures)
+    fill_by_all (shown (plan_of c.args.draft.now) c.args.board.now g.K.Kind.ops.bottom c.args.row c.args.step) c.split_at-2.result.0.now c.args.draft.now.places g.K.Kind.ops.bottom
+    (c.split_at-2.ensures.front-len ∙ c.places.ensures)
     (λ k lt.
-    c.split-at-2.ensures.by_index.1 k g.K.Kind.ops.bottom (omega (arith, c.places.ensures))
-    ∙ c.split-at.ensures.by_index.2 k g.K.Kind.ops.bottom
+    c.split_at-2.ensures.by_index.1 k g.K.Kind.ops.bottom (omega (arith, c.places.ensures))
+    ∙ c.split_at.ensures.by_index.2 k g.K.Kind.ops.bottom
     ∙ ap (λ i. get_or c.args.board.now i g.K.Kind.ops.bottom) (ap (λ i. i + k) c.index.ensures ∙ omega arith))

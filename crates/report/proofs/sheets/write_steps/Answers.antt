@@ -7,8 +7,8 @@ use Rattle.monitor.proofs.Positions.{earlier}
 use Rattle.report.proofs.Written.{step_turn}
 use Rattle.report.proofs.sheets.write_steps.Goals as goal
 
-pub offset-bounds-board-index : goal.offset-bounds-board-index
-offset-bounds-board-index g c =
+pub offset_bounds-board-index : goal.offset_bounds-board-index
+offset_bounds-board-index g c =
     omega (arith, c.index.ensures, earlier c.args.plan.now.steps c.args.plan.now.places c.args.row (c.args.row + 1) c.loop-step.step c.args.place 0 0 (omega arith) (omega arith) c.requires.place)
 
 pub bounds-board-index : goal.bounds-board-index
@@ -22,6 +22,6 @@ loop-step-preserved g c =
     let inside : at < length c.args.board.now = omega (arith, earlier c.args.plan.now.steps c.args.plan.now.places c.args.row (c.args.row + 1) c.loop-step.step c.args.place 0 0 (omega arith) (omega arith) c.requires.place) in
     let stands : c.index-board-index.result ≡ shown plan c.args.board.now g.K.Kind.ops.bottom c.args.row c.loop-step.step c.args.place =
     get_or_read c.args.board.now c.index.result c.index-board-index.result (omega (arith, inside, c.index.ensures)) c.index-board-index.is g.K.Kind.ops.bottom ∙ ap (λ k. get_or c.args.board.now k g.K.Kind.ops.bottom) c.index.ensures in
-    step_turn g.K.Printed.text (shown plan c.args.board.now g.K.Kind.ops.bottom) c.args.row c.args.place c.loop-step.step c.args.plan.now.steps c.index-board-index.result (string_bytes c.loop-step.out) (string_bytes c.push-str.new.self) (string_bytes c.write.new.out)
-    (omega arith) c.in-ok-push-str.ensures.bytes c.in-ok-write.ensures stands
+    step_turn g.K.Printed.text (shown plan c.args.board.now g.K.Kind.ops.bottom) c.args.row c.args.place c.loop-step.step c.args.plan.now.steps c.index-board-index.result (string_bytes c.loop-step.out) (string_bytes c.push_str.new.self) (string_bytes c.write.new.out)
+    (omega arith) c.in_ok-push_str.ensures.bytes c.in_ok-write.ensures stands
     ∙ c.loop-step.invariant

@@ -7,7 +7,7 @@ pub loop-i-preserved : goal.loop-i-preserved
 loop-i-preserved g c =
     below_more _ _
     (λ k h. let ne : k ≢ c.loop-i.i = omega arith in rw get_or-set_other (c.loop-i.invariant k h))
-    (let lt : c.loop-i.i < length c.loop-i.levels = omega arith in rw get_or-set_same c.at-or-bottom.ensures)
+    (let lt : c.loop-i.i < length c.loop-i.levels = omega arith in rw get_or-set_same c.at_or_bottom.ensures)
 
 pub returns : goal.returns
 returns g c =

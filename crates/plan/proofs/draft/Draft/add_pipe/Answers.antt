@@ -4,7 +4,7 @@ use Rattle.plan.specs.Drafts.{plan_of}
 use Rattle.plan.proofs.Written.{joined_push}
 use Rattle.plan.proofs.draft.Draft.add_pipe.Goals as goal
 
-pub invariant-of-self : goal.invariant-of-self
-invariant-of-self c =
-    let j : all_join c.args.self.now.places (vec_items c.push-reserved.new.self) ≡ true = joined_push (plan_of c.args.self.now) c.args.pipe _ c.push-reserved.ensures.items c.args.self.now.joined c.in-default.ensures in
+pub invariant_of-self : goal.invariant_of-self
+invariant_of-self c =
+    let j : all_join c.args.self.now.places (vec_items c.push_reserved.new.self) ≡ true = joined_push (plan_of c.args.self.now) c.args.pipe _ c.push_reserved.ensures.items c.args.self.now.joined c.in_default.ensures in
     search rules

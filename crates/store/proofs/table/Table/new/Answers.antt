@@ -9,12 +9,12 @@ loop-cell-preserved c =
     let rs = vec_items c.loop-cell.ranges in (
       omega arith,
       omega arith,
-      ap (map ends) c.push-reserved.ensures.items ∙ map_push ends rs c.widest.result ∙ ap (λ (l : List Ends). l ++ ends c.widest.result ∷ []) c.loop-cell.invariant.2
-          ∙ ap (λ (e : Ends). replicate c.loop-cell.-cell widest ++ e ∷ []) c.widest.ensures ∙ replicate_more c.loop-cell.-cell widest,
+      ap (map ends) c.push_reserved.ensures.items ∙ map_push ends rs c.widest.result ∙ ap (λ (l : List Ends). l ++ ends c.widest.result ∷ []) c.loop-cell.invariant.2
+          ∙ ap (λ (e : Ends). replicate c.loop-cell._cell widest ++ e ∷ []) c.widest.ensures ∙ replicate_more c.loop-cell._cell widest,
     )
 
 pub returns : goal.returns
 returns c =
-    let all : c.loop-cell.-cell ≡ c.args.cells = omega arith in
+    let all : c.loop-cell._cell ≡ c.args.cells = omega arith in
     let len : length (vec_items c.loop-cell.ranges) ≡ c.args.cells = omega (arith, c.loop-cell.ranges.ok.0) in
     (λ i. stored (len i) ((c.loop-cell.invariant.2 ∙ ap (λ m. replicate m widest) all) i))

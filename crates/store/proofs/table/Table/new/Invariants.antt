@@ -4,4 +4,4 @@ use Rattle.store.proofs.table.Table.new.Given as goal
 
 abbrev pub invariant-loop-cell : goal.invariant-loop-cell
 invariant-loop-cell l =
-    (l.cells ≤ vec_capacity l.ranges) × (vec_len l.ranges ≡ l.-cell) × (map ends (vec_items l.ranges) ≡ replicate l.-cell widest)
+    (l.cells ≤ vec_capacity l.ranges) × (vec_len l.ranges ≡ l._cell) × (map ends (vec_items l.ranges) ≡ replicate l._cell widest)
