@@ -11,8 +11,8 @@ use Rattle.command.proofs.read.read_spelt.Goals as goal
 short : (b : ℕ) (bs : List ℕ) (ts us : List Token) → length bs < 80 → ts ≡ us → Some (map token_field us) ≡ fields bs → said b (map token_field ts) ≡ spelt b bs
 short b bs ts us h same e = ap (λ l. said b (map token_field l)) same ∙ grind (arith, nat_tests)
 
-pub returns-then-rest-ge-MOST-BYTES : goal.returns-then-rest-ge-MOST-BYTES
-returns-then-rest-ge-MOST-BYTES c = grind (arith, nat_tests)
+pub returns-then-rest-ge-MOST_BYTES : goal.returns-then-rest-ge-MOST_BYTES
+returns-then-rest-ge-MOST_BYTES c = grind (arith, nat_tests)
 
 pub returns : goal.returns
 returns c =

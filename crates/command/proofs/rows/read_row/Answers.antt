@@ -5,4 +5,4 @@ use Rattle.command.proofs.rows.read_row.Goals as goal
 
 pub returns-in_err-code : goal.returns-in_err-code
 returns-in_err-code c =
-    c.from-residual.ensures ∙ sym (no_row c.args.tokens.now c.in_err-code.ensures.cases)
+    c.from_residual.ensures ∙ sym (no_row c.args.tokens.now c.in_err-code.ensures.cases)

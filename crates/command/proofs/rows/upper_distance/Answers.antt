@@ -10,7 +10,7 @@ bounded o = given o (λ n. Some (Some n))
 pub returns-in_err-natural : goal.returns-in_err-natural
 unfolding bounded
 returns-in_err-natural c =
-    c.from-residual.ensures ∙ ap bounded c.in_err-natural.ensures ∙ number_upper c.args.token c.in_default.not-Minus
+    c.from_residual.ensures ∙ ap bounded c.in_err-natural.ensures ∙ number_upper c.args.token c.in_default.not-Minus
 
 pub returns : goal.returns
 unfolding bounded

@@ -23,7 +23,7 @@ split_at-requires-2 g c =
 pub returns : goal.returns
 returns g c =
     fill_by_all (shown (plan_of c.args.draft.now) c.args.board.now g.K.Kind.ops.bottom c.args.row c.args.step) c.split_at-2.result.0.now c.args.draft.now.places g.K.Kind.ops.bottom
-    (c.split_at-2.ensures.front-len ∙ c.places.ensures)
+    (c.split_at-2.ensures.front_len ∙ c.places.ensures)
     (λ k lt.
     c.split_at-2.ensures.by_index.1 k g.K.Kind.ops.bottom (omega (arith, c.places.ensures))
     ∙ c.split_at.ensures.by_index.2 k g.K.Kind.ops.bottom
