@@ -1,12 +1,12 @@
 -- Columns of verdicts, and routes that stay among the places.
-use Rattle.std.proofs.Common.{◌≡◌, ℕ, zero, suc, ◌+◌, ◌<◌, ◌≤◌, Bool, true, false, ◌&&◌, leb, List, [], ◌∷◌, map, length, get_or, Some, None, Option, sym, refl, ap, ◌∙◌, subst, arith, leb-true}
+use Rattle.std.proofs.Common.{◌≡◌, ℕ, zero, suc, ◌+◌, ◌<◌, ◌≤◌, Bool, true, false, ◌&&◌, leb, List, [], ◌∷◌, map, length, get_or, Some, None, Option, sym, refl, ◌∙◌, subst, arith, leb-true}
 use Rattle.std.specs.List.{range_with_len}
 use Rattle.std.proofs.lemmas.List.FromFn.{length-map-range_with_len, get_or-map-range_with_len}
 use Rattle.verdict.specs.Algebra.{Ops, Laws}
 use Rattle.verdict.specs.Least.{Least}
 use Rattle.network.specs.declared.pipe.Pipe.{Pipe}
 use Rattle.network.specs.Measures.{Extend, Measures}
-use Rattle.network.specs.Routes.{Ends, Joined, Stands, Leads, Reaching}
+use Rattle.network.specs.Routes.{Joined, Stands, Leads, Reaching}
 use Rattle.space.specs.Along.{along}
 use Rattle.space.specs.Levels.{cap, reached, val}
 use Rattle.space.proofs.Cuts.{joined_mem}

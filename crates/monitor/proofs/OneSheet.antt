@@ -1,5 +1,5 @@
 -- The verdicts are the one and only sheet.
-use Rattle.std.proofs.Common.{◌≡◌, ℕ, zero, suc, ◌+◌, ◌-◌, ◌<◌, ◌≤◌, min, Bool, true, false, ◌&&◌, ltb, length, sym, refl, ap, ◌∙◌, subst, arith, ltb-true}
+use Rattle.std.proofs.Common.{◌≡◌, ℕ, zero, suc, ◌+◌, ◌-◌, ◌<◌, min, Bool, true, false, ◌&&◌, ltb, length, sym, refl, ap, ◌∙◌, subst, arith, ltb-true}
 use Rattle.reading.specs.Ends.{Ends}
 use Rattle.verdict.specs.Algebra.{Ops, Laws}
 use Rattle.verdict.proofs.Order.{least_unique}

@@ -1,5 +1,5 @@
 -- A call's checks, in the order in which they are made, and what the call then answers and leaves.
-use Rattle.std.specs.Prelude.{Bool, true, false, cond, List, [], ◌∷◌, Some, None, Ok, Err, Option, Result}
+use Rattle.std.specs.Prelude.{Bool, cond, List, [], ◌∷◌, Some, None, Ok, Err, Option, Result}
 use Rattle.refusal.specs.declared.Refusal.{Refusal}
 
 -- a test that refuses where it is true, and the refusal

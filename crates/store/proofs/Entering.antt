@@ -1,10 +1,10 @@
 -- Which refusal an entry gets, from the range held.
-use Rattle.std.proofs.Common.{◌≡◌, ℕ, ◌<◌, ◌≤◌, Bool, true, false, cond, not, ◌&&◌, leb, length, Some, None, Ok, Err, Option, sym, ap, ◌∙◌, subst, le-ltb, lt-ltb}
-use Rattle.reading.specs.Ends.{Ends, inside, is_widest}
+use Rattle.std.proofs.Common.{◌≡◌, ℕ, ◌<◌, ◌≤◌, true, false, cond, length, Some, None, Ok, Err, sym, ap, ◌∙◌, subst, le-ltb, lt-ltb}
+use Rattle.reading.specs.Ends.{Ends, inside}
 use Rattle.refusal.specs.declared.Refusal.{Refusal}
 use Rattle.refusal.specs.declared.Refusal.TheVariants.{NoSuchCell, NotInside, StoreFull}
-use Rattle.refusal.specs.Checks.{first, answer, leaves}
-use Rattle.store.specs.Stored.{Stored, at, used, is_full, refusal, accepted, Entered}
+use Rattle.refusal.specs.Checks.{answer, leaves}
+use Rattle.store.specs.Stored.{Stored, at, is_full, refusal, accepted, Entered}
 
 refused : (s : Stored) (k : ℕ) (g : Ends) (e : Refusal) → refusal s k g ≡ Some e → Entered s k g (Err e) s
 refused s k g e is = record { answers = ap answer (sym is); after = ap (λ o. leaves o s (accepted s k g)) (sym is) }

@@ -1,5 +1,5 @@
 -- The span of a kind: its operations end by end, and its laws from those of the kind.
-use Rattle.std.specs.Prelude.{◌≡◌, true}
+use Rattle.std.specs.Prelude.{true}
 use Rattle.std.proofs.Common.{ap₂}
 use Rattle.verdict.specs.declared.span.Span.{Span}
 use Rattle.verdict.specs.Algebra.{Ops, Laws}

@@ -1,7 +1,7 @@
-use Rattle.std.proofs.Common.{string_bytes, sym, refl, ap, ◌∙◌}
+use Rattle.std.proofs.Common.{string_bytes, ap, ◌∙◌}
 use Rattle.store.specs.Tables.{table_of}
 use Rattle.plan.specs.Drafts.{plan_of}
-use Rattle.survey.specs.Surveys.{survey_of, surveyed}
+use Rattle.survey.specs.Surveys.{surveyed}
 use Rattle.job.specs.Jobs.{draft, survey, printed}
 use Rattle.job.specs.Reading.{sealed_stage}
 use Rattle.job.proofs.Lines.{loop_turn}

@@ -1,11 +1,9 @@
-use Rattle.std.proofs.Common.{◌≡◌, ◌+◌, true, length, set, sym, ap, ◌∙◌, subst, arith}
+use Rattle.std.proofs.Common.{◌≡◌, ◌+◌, true, set, ap, ◌∙◌, arith}
 use Rattle.store.specs.Stored.{at}
 use Rattle.plan.specs.Rows.{refers, has_interval}
-use Rattle.plan.specs.Plans.{index}
 use Rattle.plan.specs.Drafts.{plan_of}
-use Rattle.monitor.specs.Verdicts.{verdict}
 use Rattle.monitor.specs.Boards.{shown}
-use Rattle.monitor.proofs.Positions.{next_step, within_row, start}
+use Rattle.monitor.proofs.Positions.{next_step, start}
 use Rattle.monitor.proofs.Filling.{place_drawn, prepared_like, row_kept}
 use Rattle.monitor.proofs.drawing.draw_step.Goals as goal
 

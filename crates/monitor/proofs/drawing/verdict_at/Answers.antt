@@ -1,5 +1,4 @@
-use Rattle.std.proofs.Common.{◌≡◌, ℕ, ◌+◌, ◌<◌, ◌≤◌, true, ltb, length, arith}
-use Rattle.plan.specs.Plans.{Plan, index}
+use Rattle.std.proofs.Common.{length}
 use Rattle.plan.specs.Drafts.{plan_of}
 use Rattle.monitor.proofs.OneSheet.{left_of, right_of}
 use Rattle.monitor.proofs.Positions.{within, within_rows}

@@ -1,9 +1,8 @@
-use Rattle.std.proofs.Common.{◌≡◌, ℕ, ◌*◌, ◌<◌, ◌≤◌, length, sym, ap, ◌∙◌, subst, arith}
+use Rattle.std.proofs.Common.{◌≡◌, length, sym, ap, ◌∙◌, subst, arith}
 use Rattle.network.specs.Routes.{Joined}
 use Rattle.network.proofs.Joining.{all_joined}
 use Rattle.plan.specs.Drafts.{plan_of}
 use Rattle.space.specs.Levels.{gathered, reached}
-use Rattle.monitor.specs.Verdicts.{column}
 use Rattle.monitor.specs.Boards.{shown}
 use Rattle.monitor.proofs.Columns.{column_length, small}
 use Rattle.monitor.proofs.space_rows.fill_reach.Goals as goal

@@ -1,6 +1,6 @@
-use Rattle.std.proofs.Common.{◌≡◌, ℕ, ◌+◌, ◌-◌, ◌*◌, ◌<◌, ◌≤◌, List, ◌++◌, length, take, drop, sym, refl, ap, ◌∙◌, subst, arith, length-take-le}
+use Rattle.std.proofs.Common.{◌≡◌, ℕ, ◌+◌, ◌-◌, ◌*◌, ◌<◌, ◌++◌, length, take, refl, ap, ◌∙◌, arith, length-take-le}
 use borrow.Rule.Slice.PartMut.{post_of}
-use Rattle.space.specs.Levels.{cap, tall, begun, climbed, gathered, reached, joined}
+use Rattle.space.specs.Levels.{cap, tall, begun, climbed, gathered, reached}
 use Rattle.space.proofs.Rooms.{inside, tall_cap}
 use Rattle.space.proofs.Turns.{reached_by, joined_front}
 use Rattle.space.proofs.Reaches.{reaches}
