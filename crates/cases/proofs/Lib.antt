@@ -1,0 +1,3 @@
+-- Why the cases hold.
+mod LongWay
+mod Reckoned

@@ -1,0 +1,2 @@
+-- Cases of the meanings that readers ask about.
+pub mod Cases
