@@ -3,8 +3,9 @@
 
 usage: python3 tools/respell.py        at the top of a repository that /opt/rattle/port/port.py has just turned
 
-A dash is kept only where it joins the names of two operations, as in length-upto. Names in paths, in strings and in the
-comments of .rt files stay; pages have their names turned where they stand in backticks. It proves nothing.
+It turns the names listed below and no others. A dash is kept only where it joins the names of two operations, as in
+length-upto. In .antt, .edit and .txt files the names are turned wherever they stand whole, but for those beside a slash,
+as in a file's path; in .rt files not in strings and comments; in pages where they stand in backticks. It proves nothing.
 """
 
 import os

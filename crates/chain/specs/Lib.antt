@@ -2,3 +2,4 @@
 pub mod Links
 pub mod Records
 pub mod Chains
+pub mod Telling

@@ -2,4 +2,3 @@
 pub mod Meaning
 pub mod Verdicts
 pub mod Boards
-pub mod Cases

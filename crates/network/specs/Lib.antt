@@ -1,3 +1,4 @@
--- What measures are.
+-- What measures, routes and shortest distances are.
 pub mod Measures
 pub mod Routes
+pub mod Shortest

@@ -1,2 +1,3 @@
--- What a row that is taken keeps true of the table of rows.
+-- What a pipe or a row that is taken keeps true of a draft.
 mod Written
+pub mod Holding

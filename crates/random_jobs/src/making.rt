@@ -122,11 +122,19 @@ fn some_statement(random: &mut Random, rows: u32, channels: u32) -> Statement {
                 upto: from.saturating_add(random.of_naturals(&[0, 1, 2, 61, 62, 63])),
             }
         }
-        _ => {
+        7 | 8 | 9 => {
             let from = distance(random);
             Statement::Reach {
                 through: one,
                 goal: two,
+                from,
+                upto: upper(random, from),
+            }
+        }
+        _ => {
+            let from = distance(random);
+            Statement::Escape {
+                along: one,
                 from,
                 upto: upper(random, from),
             }
@@ -167,9 +175,8 @@ fn odd_row(random: &mut Random, rows: u32, channels: u32) -> Row {
             from: random.of_naturals(&[3, 128]),
             upto: if random.one_in(2) { None } else { Some(2) },
         }),
-        _ => Row::Known(Statement::Reach {
-            through: 0,
-            goal: 0,
+        _ => Row::Known(Statement::Escape {
+            along: 0,
             from: random.of_naturals(&[3, 127, 128]),
             upto: Some(random.of_naturals(&[2, 127, 128])),
         }),
@@ -417,9 +424,8 @@ fn many_pipes(heap: Global, random: &mut Random) -> Result<Vec<Line>, AllocError
     for _ in 0..2u32 {
         lines.push(Line::WriteRow(Row::Known(some_statement(random, 1, 1))))?;
     }
-    lines.push(Line::WriteRow(Row::Known(Statement::Reach {
-        through: 0,
-        goal: 0,
+    lines.push(Line::WriteRow(Row::Known(Statement::Escape {
+        along: 0,
         from: random.below(4),
         upto: None,
     })))?;
@@ -429,12 +435,31 @@ fn many_pipes(heap: Global, random: &mut Random) -> Result<Vec<Line>, AllocError
     Ok(lines)
 }
 
+// A statement that is accepted where a row stands and channel 0 is one, but for want of room.
+fn good_statement(random: &mut Random) -> Statement {
+    match random.below(4) {
+        0 => Statement::Not { row: 0 },
+        1 => Statement::And { left: 0, right: 0 },
+        2 => Statement::Reach {
+            through: 0,
+            goal: 0,
+            from: random.below(4),
+            upto: None,
+        },
+        _ => Statement::AtLeast {
+            channel: 0,
+            limit: random.of(&LEVELS),
+        },
+    }
+}
+
 // As many rows as there may be, and some that are refused.
 fn many_rows(heap: Global, random: &mut Random) -> Result<Vec<Line>, AllocError> {
     let mut lines = Vec::new(heap);
     add_opening(random, &mut lines, 2, 2, 1)?;
-    for row in 0..33u32 {
-        lines.push(Line::WriteRow(Row::Known(some_statement(random, row.min(20), 1))))?;
+    lines.push(Line::WriteRow(Row::Known(Statement::Yes)))?;
+    for _ in 0..32u32 {
+        lines.push(Line::WriteRow(Row::Known(good_statement(random))))?;
     }
     for _ in 0..3u32 {
         lines.push(Line::WriteRow(odd_row(random, 32, 1)))?;

@@ -1,0 +1,3 @@
+-- What every range has.
+pub mod Limits
+pub mod Widest

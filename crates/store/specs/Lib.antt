@@ -1,3 +1,5 @@
 -- What a store means.
 pub mod Stored
 pub mod Tables
+pub mod TablesLemmas
+pub mod Entering

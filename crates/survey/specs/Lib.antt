@@ -1,2 +1,4 @@
--- What a survey holds, and what it refuses.
+-- What a survey holds, and the plain machine that it answers as.
 pub mod Surveys
+pub mod Machine
+pub mod Answers

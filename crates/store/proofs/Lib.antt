@@ -1,3 +1,0 @@
--- What entries come to, for every store and for the table.
-pub mod Entering
-pub mod Tables
