@@ -1,11 +1,11 @@
 -- The one sheet of a small plan is reckoned, and what is left of joins and meets is settled by the laws of a kind.
-use Rattle.std.proofs.Common.{◌≡◌, ℕ, zero, suc, ◌+◌, ◌<◌, true, List, [], ◌∷◌, length, get_or, ℤ, pos, Some, None, Option, sym, refl, ◌∙◌, subst, arith}
+use Rattle.std.proofs.Common.{◌≡◌, ℕ, zero, suc, ◌+◌, ◌<◌, true, List, [], ◌∷◌, length, ℤ, pos, Some, None, Option, sym, refl, ◌∙◌, subst, arith}
 use Rattle.reading.specs.Ends.{Ends, exactly}
 use Rattle.verdict.specs.Algebra.{Ops, Laws}
-use Rattle.verdict.specs.YesNo.{yesno, yesno_laws}
-use Rattle.verdict.specs.Margins.{margins, margin_laws}
-use Rattle.verdict.specs.Spans.{span_ops, span_laws}
-use Rattle.verdict.proofs.Order.{below_refl, below_antisym, top_meet, meet-bottom}
+use Rattle.verdict.specs.YesNo.{yesno_laws}
+use Rattle.verdict.specs.Margins.{margin_laws}
+use Rattle.verdict.specs.Spans.{span_laws}
+use Rattle.verdict.proofs.Order.{below_refl, below_antisym, top_meet}
 use Rattle.network.specs.declared.pipe.Pipe.{Pipe}
 use Rattle.network.specs.Measures.{Extend, by_lengths, lengths_laws}
 use Rattle.network.specs.Routes.{all_join}
@@ -18,7 +18,7 @@ use Rattle.monitor.specs.Meaning.{Sheet, row_at, Means, IsSheet}
 use Rattle.monitor.specs.Verdicts.{verdict}
 use Rattle.monitor.proofs.OneSheet.{one_sheet}
 use Rattle.cases.proofs.LongWay.{found}
-use Rattle.cases.specs.Cases.{two_pipes, with_short_cut, round, small, entered, reach_rows, escape_rows, Cases}
+use Rattle.cases.specs.Cases.{two_pipes, with_short_cut, round, small, entered, reach_rows, Cases}
 
 -- what holds of two or three numbers
 two : (P : ℕ → Type 0) → P 0 → P 1 → (i : ℕ) → i < 2 → P i
@@ -31,21 +31,15 @@ three P a b c zero lt = a
 three P a b c (suc i) lt = two (λ j. P (suc j)) b c i (omega arith)
 
 module _ {V : Type 0} {o : Ops V} (ls : Laws o) where
-  pub join-bottom : (v : V) → o.join v o.bottom ≡ v
-  join-bottom v = ls.join_comm v o.bottom ∙ ls.least v
-
   -- every sheet has the verdicts that are reckoned
   reckoned : (pipes : List Pipe) (rows : List Statement) (readings : ℕ → Ends) → all_join 3 pipes ≡ true → Ordered rows → Intervals rows → (f : Sheet V) → IsSheet o by_lengths (small pipes rows) readings f → (i p : ℕ) → i < length rows → p < 3 → f i 0 p ≡ verdict o by_lengths (small pipes rows) readings i 0 p
   reckoned pipes rows readings joined ordered intervals f sheet i p hi hp =
       (one_sheet o by_lengths (small pipes rows) readings ordered ls lengths_laws (all_joined 3 pipes joined) intervals).only f sheet i 0 p hi (omega arith) hp
 
-  -- the sheets of a reach row and of an escape row
+  -- the sheets of a reach row
   module _ (k : ℤ) (readings : ℕ → Ends) where
     reach_is : (pipes : List Pipe) (a : ℕ) (b : Option ℕ) → all_join 3 pipes ≡ true → are_distances a b ≡ true → (f : Sheet V) → IsSheet o by_lengths (small pipes (reach_rows k a b)) readings f → (i p : ℕ) → i < 3 → p < 3 → f i 0 p ≡ verdict o by_lengths (small pipes (reach_rows k a b)) readings i 0 p
     reach_is pipes a b joined near = reckoned pipes (reach_rows k a b) readings joined (three _ refl refl refl) (three _ refl refl near)
-
-    escape_is : (pipes : List Pipe) (a : ℕ) (b : Option ℕ) → all_join 3 pipes ≡ true → are_distances a b ≡ true → (f : Sheet V) → IsSheet o by_lengths (small pipes (escape_rows k a b)) readings f → (i p : ℕ) → i < 2 → p < 3 → f i 0 p ≡ verdict o by_lengths (small pipes (escape_rows k a b)) readings i 0 p
-    escape_is pipes a b joined near = reckoned pipes (escape_rows k a b) readings joined (two _ refl refl) (two _ refl near)
 
   -- an exact reading of 50 at the limit 50
   limit_is : (f : Sheet V) → IsSheet o by_lengths (small [] (AtLeast 0 (pos 50) ∷ Not 0 ∷ [])) (λ cell. exactly (pos 50)) f → (i p : ℕ) → i < 2 → p < 3 → f i 0 p ≡ verdict o by_lengths (small [] (AtLeast 0 (pos 50) ∷ Not 0 ∷ [])) (λ cell. exactly (pos 50)) i 0 p
@@ -60,23 +54,6 @@ module _ {V : Type 0} {o : Ops V} (ls : Laws o) where
 
     none_of_4 : (f : Sheet V) → IsSheet o by_lengths (small round (reach_rows k 4 (Some 4))) readings f → f 2 0 0 ≡ o.bottom
     none_of_4 f sheet = reach_is ls k readings round 4 (Some 4) refl refl f sheet 2 0 (omega arith) (omega arith) ∙ (simp (top_meet ls, ls.least))
-
-    stays_put : (f : Sheet V) → IsSheet o by_lengths (small two_pipes (escape_rows k 0 None)) readings f → (p : ℕ) → p < 3 → f 1 0 p ≡ f 0 0 p
-    stays_put f sheet =
-        let is = escape_is ls k readings two_pipes 0 None refl refl f sheet in
-        three (λ p. f 1 0 p ≡ f 0 0 p)
-        (is 1 0 (omega arith) (omega arith) ∙ (simp (meet-bottom ls, ls.least, join-bottom ls, ls.join_absorb, below_refl ls)) ∙ sym (is 0 0 (omega arith) (omega arith)))
-        (is 1 1 (omega arith) (omega arith) ∙ (simp (meet-bottom ls, ls.least, join-bottom ls, ls.join_absorb, below_refl ls)) ∙ sym (is 0 1 (omega arith) (omega arith)))
-        (is 1 2 (omega arith) (omega arith) ∙ (simp ls.least) ∙ sym (is 0 2 (omega arith) (omega arith)))
-
-    gets_away : (f : Sheet V) → IsSheet o by_lengths (small two_pipes (escape_rows k 6 None)) readings f → f 1 0 0 ≡ o.meet (f 0 0 0) (o.meet (f 0 0 1) (f 0 0 2))
-    gets_away f sheet =
-        let is = escape_is ls k readings two_pipes 6 None refl refl f sheet in
-        is 1 0 (omega arith) (omega arith) ∙ (simp (meet-bottom ls, ls.least, below_refl ls))
-        ∙ (λ j. o.meet (sym (is 0 0 (omega arith) (omega arith)) j) (o.meet (sym (is 0 1 (omega arith) (omega arith)) j) (sym (is 0 2 (omega arith) (omega arith)) j)))
-
-    cut_short : (f : Sheet V) → IsSheet o by_lengths (small with_short_cut (escape_rows k 6 None)) readings f → f 1 0 0 ≡ o.bottom
-    cut_short f sheet = escape_is ls k readings with_short_cut 6 None refl refl f sheet 1 0 (omega arith) (omega arith) ∙ (simp ls.least)
 
     still_found : (f : Sheet V) → IsSheet o by_lengths (small with_short_cut (reach_rows k 6 None)) readings f → f 2 0 0 ≡ f 0 0 2
     still_found f sheet =
@@ -94,9 +71,6 @@ module _ {V : Type 0} {o : Ops V} (ls : Laws o) where
     leaves_out = λ f sheet. reach_is (span_laws yesno_laws) (pos 50) entered two_pipes 1 (Some 9) refl refl f sheet 2 2 (omega arith) (omega arith);
     comes_round = comes_round;
     none_of_4 = none_of_4;
-    stays_put = stays_put;
-    gets_away = gets_away;
-    cut_short = cut_short;
     still_found = still_found;
     nothing_later = nothing_later;
     margin_zero = λ f sheet. (limit_is margin_laws f sheet 0 0 (omega arith) (omega arith), limit_is margin_laws f sheet 1 0 (omega arith) (omega arith));

@@ -9,7 +9,7 @@ use Rattle.verdict.specs.Spans.{span, span_ops}
 use Rattle.network.specs.declared.pipe.Pipe.{Pipe}
 use Rattle.network.specs.Measures.{Extend, by_lengths}
 use Rattle.plan.specs.declared.statement.Statement.{Statement}
-use Rattle.plan.specs.declared.statement.Statement.TheVariants.{AtLeast, Not, Until, Reach, Escape}
+use Rattle.plan.specs.declared.statement.Statement.TheVariants.{AtLeast, Not, Until, Reach}
 use Rattle.plan.specs.declared.statement.Statement.TheVariants.{Yes as YesRow}
 use Rattle.plan.specs.Plans.{Plan}
 use Rattle.monitor.specs.Meaning.{Sheet, row_at, IsSheet}
@@ -42,10 +42,6 @@ entered cell = slice_index_or (record { low = pos 10; high = pos 20 } ∷ widest
 abbrev pub reach_rows : ℤ → ℕ → Option ℕ → List Statement
 reach_rows k a b = AtLeast 0 k ∷ YesRow ∷ Reach 1 0 a b ∷ []
 
--- row 0: a level of k or more; row 1: escape along it
-abbrev pub escape_rows : ℤ → ℕ → Option ℕ → List Statement
-escape_rows k a b = AtLeast 0 k ∷ Escape 0 a b ∷ []
-
 -- every sheet of the plan over the readings has this; that there is one is `OneSheet`
 abbrev pub Says : {V : Type 0} → Ops V → Extend → Plan → (ℕ → Ends) → (Sheet V → Type 0) → Type 0
 Says {V} o x plan readings P = (f : Sheet V) → IsSheet o x plan readings f → P f
@@ -68,13 +64,7 @@ pub record Cases {V : Type 0} (o : Ops V) : Type 0 where
   pub comes_round : (k : ℤ) (readings : ℕ → Ends) → Long o round (reach_rows k 5 (Some 5)) readings (λ f. f 2 0 0 ≡ f 0 0 0)
   -- no route has distance 4
   pub none_of_4 : (k : ℤ) (readings : ℕ → Ends) → Long o round (reach_rows k 4 (Some 4)) readings (λ f. f 2 0 0 ≡ o.bottom)
-  -- escape from 0 without an upper distance is the row at the place
-  pub stays_put : (k : ℤ) (readings : ℕ → Ends) → Long o two_pipes (escape_rows k 0 None) readings (λ f. (p : ℕ) → p < 3 → f 1 0 p ≡ f 0 0 p)
-  -- escape from 6 without an upper distance leads from place 0 over 1 to 2
-  pub gets_away : (k : ℤ) (readings : ℕ → Ends) → Long o two_pipes (escape_rows k 6 None) readings (λ f. f 1 0 0 ≡ o.meet (f 0 0 0) (o.meet (f 0 0 1) (f 0 0 2)))
-  -- with the short cut no place is so far away
-  pub cut_short : (k : ℤ) (readings : ℕ → Ends) → Long o with_short_cut (escape_rows k 6 None) readings (λ f. f 1 0 0 ≡ o.bottom)
-  -- yet reach from 6 without an upper distance still finds place 2, by the long way
+  -- with the short cut, reach from 6 without an upper distance still finds place 2, by the long way
   pub still_found : (k : ℤ) (readings : ℕ → Ends) → Long o with_short_cut (reach_rows k 6 None) readings (λ f. f 2 0 0 ≡ f 0 0 2)
   -- until from 1 to 2 at the last step is bottom, whatever the plan, the measure and its rows
   pub nothing_later : (x : Extend) (plan : Plan) (readings : ℕ → Ends) → Says o x plan readings (λ f. (i r s t p : ℕ) → i < length plan.rows → row_at plan i ≡ Until r s 1 2 → t + 1 ≡ plan.steps → p < plan.places → f i t p ≡ o.bottom)

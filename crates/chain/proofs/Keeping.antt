@@ -8,7 +8,7 @@ use Rattle.chain.specs.declared.record.Record.{Record}
 use Rattle.chain.specs.declared.chain.Chain.{Chain}
 use Rattle.chain.specs.Links.{link, needed, ahead, Within, Onward, Nearest, Apart}
 use Rattle.chain.specs.Records.{ranges_of, cells_of, links_of, Narrow, Tally, Of, Past, Gap}
-use Rattle.chain.specs.Telling.{Free, as_many, tally_none, tally_push, tally_set, told, below_all, narrow_all, apart_all, ranges_push, ranges_set}
+use Rattle.chain.proofs.Telling.{Free, as_many, tally_none, tally_push, tally_set, told, below_all, narrow_all, apart_all, ranges_push, ranges_set}
 use Rattle.chain.proofs.Linking.{Linked, linked_more}
 
 -- a field of a record as it was read

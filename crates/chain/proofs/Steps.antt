@@ -1,19 +1,19 @@
 -- What an entry comes to, at a record and at a gap.
 use Rattle.std.proofs.Common.{◌≡◌, ℕ, ◌<◌, ◌≤◌, true, false, not, List, length, get_or, set, Ok, Err, vec_items, Option, Result, sym, ap, ◌∙◌, arith}
 use Rattle.std.proofs.lemmas.List.{set-get_or}
-use Rattle.std.proofs.lemmas.Bool.{and_left, and_right, and_from, eq-eqb, ne_eqb}
+use Rattle.std.proofs.lemmas.Bool.{and_left, and_right, and_from, le-leb, lt-leb}
 use Rattle.reading.specs.declared.range.Range.{Range}
 use Rattle.reading.specs.Ends.{Ends, ends, widest, inside, is_widest}
-use Rattle.reading.proofs.Widest.{inside_widest, widest_is}
+use Rattle.chain.proofs.Widest.{inside_widest, widest_is}
 use Rattle.refusal.specs.declared.Refusal.{Refusal}
 use Rattle.refusal.specs.declared.Refusal.TheVariants.{NoSuchCell, NotInside, StoreFull}
 use Rattle.store.specs.Stored.{Stored, stored, at, used, accepted, Entered}
-use Rattle.store.specs.Entering.{no_cell, not_inside, full, entered}
+use Rattle.store.proofs.Entering.{no_cell, not_inside, full, entered}
 use Rattle.chain.specs.declared.record.Record.{Record}
 use Rattle.chain.specs.declared.chain.Chain.{Chain}
 use Rattle.chain.specs.Records.{ranges_of, Of, Gap}
 use Rattle.chain.specs.Chains.{chain_of}
-use Rattle.chain.specs.Telling.{length-ranges, free_widest}
+use Rattle.chain.proofs.Telling.{length-ranges, free_widest}
 use Rattle.chain.proofs.Keeping.{held, narrow, absent}
 
 module _ (s : Chain) (k : ℕ) where
@@ -59,8 +59,8 @@ module _ (s : Chain) (k : ℕ) where
         pub filled : is_widest (ends g) ≡ false → length (vec_items s.records) ≡ s.capacity → Comes (Err StoreFull) (chain_of s)
         filled e all =
             full (chain_of s) k (ends g) widest there none (inside_widest g)
-            (and_from _ _ (and_from _ _ (ap is_widest none) (ap not e)) (eq-eqb (used told) s.capacity (s.tally ∙ all)))
+            (and_from _ _ (and_from _ _ (ap is_widest none) (ap not e)) (le-leb s.capacity (used told) (omega (arith, s.tally))))
 
         pub added : length (vec_items s.records) < s.capacity → (t : Stored) → t ≡ accepted (chain_of s) k (ends g) → Comes (Ok tt) t
         added room t q =
-            entered (chain_of s) k (ends g) widest there none t (inside_widest g) (and_right _ _ (ne_eqb (used told) s.capacity (λ e. omega (arith, s.tally)))) q
+            entered (chain_of s) k (ends g) widest there none t (inside_widest g) (and_right _ _ (lt-leb s.capacity (used told) (omega (arith, s.tally)))) q

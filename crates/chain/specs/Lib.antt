@@ -2,4 +2,3 @@
 pub mod Links
 pub mod Records
 pub mod Chains
-pub mod Telling

@@ -1,6 +1,6 @@
 -- The links of a chain, by two lists: record i is of the cell `slice_index cs i`, and its link is `slice_index_or ns i None`.
 -- A link is owned by the head, None, or by record i, Some i.
-use Rattle.std.specs.Prelude.{◌≡◌, ℕ, suc, ◌<◌, ◌≤◌, List, length, Some, None, Option, ◌≢◌, slice_index, slice_index_or}
+use Rattle.std.specs.Prelude.{ℕ, suc, ◌<◌, ◌≤◌, List, length, Some, None, Option, ◌≢◌, slice_index, slice_index_or}
 
 -- the link of an owner
 abbrev pub link : List (Option ℕ) → Option ℕ → Option ℕ → Option ℕ

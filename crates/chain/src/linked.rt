@@ -4,14 +4,13 @@ ghost use Rattle.reading.specs.Ends.{ends, is_widest};
 ghost use Rattle.store.specs.Stored.{fresh, accepted};
 ghost use Rattle.chain.specs.Records.{Gap, Sought};
 ghost use Rattle.chain.specs.Chains.{chain_of};
-ghost use Rattle.chain.specs.Telling.{ranges_limited};
 
 use crate::chain::Chain;
 use crate::record::{Place, Record};
 use reading::Range;
 use refusal::Refusal;
 use std::alloc::{AllocError, Global};
-use store::{NewStore, Readings, Store};
+use store::{Readings, Store};
 
 impl Chain {
     // All cells are widest. No memory is asked for after this.
@@ -67,8 +66,6 @@ impl Chain {
 impl Readings for Chain {
     ghost ranges = { λ c. (chain_of c).ranges };
 
-    ghost limits = { λ s cell. ranges_limited s.cells s.records.items cell };
-
     fn cells(&self) -> usize {
         self.cells
     }
@@ -115,11 +112,5 @@ impl Store for Chain {
             }
         }
         Ok(())
-    }
-}
-
-impl NewStore for Chain {
-    fn with_room(heap: Global, cells: usize) -> Result<Chain, AllocError> {
-        Chain::new(heap, cells, cells)
     }
 }

@@ -5,12 +5,19 @@
 use chain::Chain;
 use network::Hops;
 use plan::{Draft, Row, Statement};
-use readers::{Outcome, Request, Script};
 use refusal::Refusal;
 use std::alloc::{AllocError, Global};
 use std::io;
 use store::{Store, Table};
-use verdict::{Margin, Printed};
+use survey::Survey;
+use verdict::{Kind, Margin, Printed, Span};
+
+// A call on a survey: an entry in channel 0 at step 0, or a sheet.
+#[derive(Clone, Copy)]
+enum Call {
+    Enter { place: u32, low: i32, high: i32 },
+    Sheet,
+}
 
 // Four places, one step, one channel: four cells. The one row is how far the level lies above 100.
 fn plan_of_four(heap: Global) -> Result<Draft, AllocError> {
@@ -22,68 +29,80 @@ fn plan_of_four(heap: Global) -> Result<Draft, AllocError> {
     Ok(draft)
 }
 
-fn entry(place: u32, low: i32, high: i32) -> Request {
-    Request::Enter {
-        channel: 0,
-        place,
-        step: 0,
-        low,
-        high,
-    }
+fn entry(place: u32, low: i32, high: i32) -> Call {
+    Call::Enter { place, low, high }
 }
 
 // A refusal's number, or 0 for an accepted call.
-fn number_of(refusal: Option<Refusal>) -> u8 {
-    match refusal {
-        Some(reason) => reason.number(),
-        None => 0,
+fn number_of(answer: Result<(), Refusal>) -> u8 {
+    match answer {
+        Ok(()) => 0,
+        Err(reason) => reason.number(),
     }
 }
 
-// The answers, and each sheet's spans in brackets.
-fn text_of(heap: Global, outcomes: &[Outcome<Margin>]) -> Result<String, AllocError> {
-    let mut text = String::new(heap);
-    for outcome in outcomes {
-        let number = number_of(outcome.refusal);
-        let more = format!(in heap; " {number}")?;
-        text.push_str(more.as_str())?;
-        for span in outcome.board.as_slice() {
-            text.push_str(" [")?;
-            (*span).write(heap, &mut text)?;
-            text.push_str("]")?;
-        }
+fn bottoms(heap: Global, count: usize) -> Result<Vec<Span<Margin>>, AllocError> {
+    let mut spans = Vec::new(heap);
+    for _ in 0..count {
+        spans.push(Span::<Margin>::bottom())?;
     }
-    Ok(text)
+    Ok(spans)
 }
 
-// Plays the calls on a new survey over a store.
+// Draws a sheet, and writes its answer and its spans in brackets.
+fn write_sheet<S: Store>(
+    heap: Global,
+    survey: &Survey<S>,
+    text: &mut String,
+) -> Result<(), AllocError> {
+    let mut board = bottoms(heap, 4)?;
+    let mut work = bottoms(heap, 1_024)?;
+    let number = number_of(survey.sheet::<Span<Margin>, Hops>(
+        board.as_mut_slice(),
+        work.as_mut_slice(),
+    ));
+    let more = format!(in heap; " {number}")?;
+    text.push_str(more.as_str())?;
+    for span in board.as_slice() {
+        text.push_str(" [")?;
+        (*span).write(heap, text)?;
+        text.push_str("]")?;
+    }
+    Ok(())
+}
+
+// Makes the calls on a new survey over a store.
 fn answers<S: Store + Drop>(
     rt: &HostRuntime,
     title: &str,
     store: S,
-    requests: &[Request],
+    calls: &[Call],
 ) -> io::Result<()> {
     let draft = plan_of_four(rt.alloc())?;
-    let script = Script::<Margin>::new(rt.alloc(), requests)?;
-    let played = script.play::<S, Hops>(draft, store, 3);
-    let (_survey, outcomes) = played.close();
-    let text = text_of(rt.alloc(), outcomes.as_slice())?;
+    let mut survey = Survey::seal(draft, store, 3);
+    let mut text = String::new(rt.alloc());
+    for call in calls {
+        match *call {
+            Call::Enter { place, low, high } => {
+                let number = number_of(survey.enter(0, place, 0, low, high));
+                let more = format!(in rt.alloc(); " {number}")?;
+                text.push_str(more.as_str())?;
+            }
+            Call::Sheet => write_sheet(rt.alloc(), &survey, &mut text)?,
+        }
+    }
     println!(rt; "{title}:{text}")
 }
 
 // The same calls on a table, on a chain with a record for each cell, and on one with two records.
-fn compare(rt: &HostRuntime, title: &str, requests: &[Request]) -> io::Result<()> {
+fn compare(rt: &HostRuntime, title: &str, calls: &[Call]) -> io::Result<()> {
     println!(rt; "{title}")?;
-    answers(rt, "  table  ", Table::new(rt.alloc(), 4)?, requests)?;
-    answers(rt, "  chain 4", Chain::new(rt.alloc(), 4, 4)?, requests)?;
-    answers(rt, "  chain 2", Chain::new(rt.alloc(), 4, 2)?, requests)
+    answers(rt, "  table  ", Table::new(rt.alloc(), 4)?, calls)?;
+    answers(rt, "  chain 4", Chain::new(rt.alloc(), 4, 4)?, calls)?;
+    answers(rt, "  chain 2", Chain::new(rt.alloc(), 4, 2)?, calls)
 }
 
 fn main(rt: HostRuntime) -> io::Result<()> {
-    let sheet = Request::Sheet {
-        board: 4,
-        work: 1_024,
-    };
     compare(
         &rt,
         "four cells, from the last to the first",
@@ -92,7 +111,7 @@ fn main(rt: HostRuntime) -> io::Result<()> {
             entry(2, 102, 112),
             entry(1, 101, 111),
             entry(0, 100, 110),
-            sheet,
+            Call::Sheet,
         ],
     )?;
     compare(
@@ -105,7 +124,7 @@ fn main(rt: HostRuntime) -> io::Result<()> {
             entry(3, 0, 300),
             entry(2, 0, 200),
             entry(1, 60, 60),
-            sheet,
+            Call::Sheet,
         ],
     )?;
     compare(
@@ -131,7 +150,7 @@ fn main(rt: HostRuntime) -> io::Result<()> {
             entry(1, 101, 102),
             entry(2, 101, 102),
             entry(3, 102, 101),
-            sheet,
+            Call::Sheet,
         ],
     )
 }

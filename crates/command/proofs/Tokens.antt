@@ -5,7 +5,7 @@ use Rattle.std.proofs.lemmas.List.{get_or-map}
 use Rattle.std.proofs.lemmas.Bool.Decides.{nat_tests}
 use Rattle.line.specs.declared.token.Token.{Token}
 use Rattle.line.specs.declared.token.Token.TheVariants.{Number, Minus}
-use Rattle.line.specs.Line.{Field, number, misspelt, natural, integer, decimal, signed, well, token_field}
+use Rattle.line.specs.Line.{number, misspelt, natural, integer, decimal, signed, well, token_field}
 use Rattle.command.specs.Commands.{given, at, upper, written}
 
 -- another count of tokens gives no command

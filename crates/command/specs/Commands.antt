@@ -2,7 +2,7 @@
 use Rattle.std.specs.Prelude.{ℕ, Bool, true, cond, ◌&&◌, ◌||◌, List, [], ◌∷◌, length, is_some, Some, None, Ok, Err, Option, Result, ◌==◌, nat_le, slice_index_or}
 use Rattle.refusal.specs.declared.Refusal.{Refusal}
 use Rattle.refusal.specs.declared.Refusal.TheVariants.{NoLetter, Misspelt, OutOfPlace}
-use Rattle.plan.specs.declared.statement.Statement.TheVariants.{AtLeast, Not, And, Or, Until, Since, Reach, Escape, Yes}
+use Rattle.plan.specs.declared.statement.Statement.TheVariants.{AtLeast, Not, And, Or, Until, Since, Reach, Yes}
 use Rattle.plan.specs.declared.statement.Row.{Row}
 use Rattle.plan.specs.declared.statement.Row.TheVariants.{Known, Unknown}
 use Rattle.line.specs.Line.{Field, misspelt, natural, integer, fields, number, minus}
@@ -84,15 +84,6 @@ reach_row fs =
     given (upper (at fs 3)) (λ b. Some (Known (Reach r s a b)))))))
     None
 
--- r d1 d2
-abbrev pub escape_row : List Field → Option Row
-escape_row fs =
-    cond (length fs == 3)
-    (given (natural (at fs 0)) (λ r.
-    given (natural (at fs 1)) (λ a.
-    given (upper (at fs 2)) (λ b. Some (Known (Escape r a b))))))
-    None
-
 -- no fields
 abbrev pub yes_row : List Field → Option Row
 yes_row fs = cond (length fs == 0) (Some (Known Yes)) None
@@ -115,9 +106,8 @@ coded code fs =
     (cond (code == 5) (until_row fs)
     (cond (code == 6) (since_row fs)
     (cond (code == 7) (reach_row fs)
-    (cond (code == 8) (escape_row fs)
     (cond (code == 9) (yes_row fs)
-    (unknown_row fs)))))))))
+    (unknown_row fs))))))))
 
 -- the row of a code, which is not negative, and its fields
 abbrev pub written : List Field → Option Row

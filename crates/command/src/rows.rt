@@ -1,7 +1,7 @@
 // The rows that a line can write: a code, and the fields that go with it.
 ghost use Rattle.std.specs.Prelude.{◌≡◌, map};
 ghost use Rattle.line.specs.Line.{token_field};
-ghost use Rattle.command.specs.Commands.{at_least_row, not_row, row_pair, and_row, or_row, row_window, until_row, since_row, upper, reach_row, escape_row, yes_row, numbers, unknown_row, coded, written};
+ghost use Rattle.command.specs.Commands.{at_least_row, not_row, row_pair, and_row, or_row, row_window, until_row, since_row, upper, reach_row, yes_row, numbers, unknown_row, coded, written};
 
 use line::Token;
 use plan::{Row, Statement};
@@ -119,20 +119,6 @@ fn reach_row(fields: &[Token]) -> Option<Row>
     }))
 }
 
-// `r d1 d2`
-fn escape_row(fields: &[Token]) -> Option<Row>
-    ensures { result ≡ escape_row (map token_field fields.now) }
-{
-    let [along, from, upto] = fields else {
-        return None;
-    };
-    Some(Row::Known(Statement::Escape {
-        along: along.natural()?,
-        from: from.natural()?,
-        upto: upper_distance(*upto)?,
-    }))
-}
-
 fn yes_row(fields: &[Token]) -> Option<Row>
     ensures { result ≡ yes_row (map token_field fields.now) }
 {
@@ -175,7 +161,6 @@ fn coded_row(code: u32, fields: &[Token]) -> Option<Row>
         5 => until_row(fields),
         6 => since_row(fields),
         7 => reach_row(fields),
-        8 => escape_row(fields),
         9 => yes_row(fields),
         _ => unknown_row(fields),
     }

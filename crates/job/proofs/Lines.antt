@@ -1,17 +1,16 @@
 -- What a line leads to, from what its call answered and left.
-use Rattle.std.proofs.Common.{◌≡◌, ℕ, ◌+◌, List, [], ◌∷◌, ◌++◌, Some, None, Ok, Err, Option, Result, sym, refl, ap, ◌∙◌, subst, append_assoc, append-nil, arith}
+use Rattle.std.proofs.Common.{◌≡◌, ℕ, ◌+◌, List, [], ◌++◌, Some, None, Ok, Err, Option, Result, sym, refl, ap, ◌∙◌, subst, append_assoc, append-nil, arith}
 use Rattle.refusal.specs.declared.Refusal.{Refusal}
 use Rattle.refusal.specs.Checks.{answer, leaves}
 use Rattle.store.specs.Stored.{Stored, fresh}
 use Rattle.plan.specs.Plans.{Plan}
-use Rattle.survey.specs.Surveys.{sealing_refusal}
-use Rattle.survey.specs.Surveys.{sealed as just-sealed}
+use Rattle.survey.specs.Surveys.{surveyed, sealing_refusal}
 use Rattle.report.specs.Texts.{refusal_text, unless_refused}
 use Rattle.line.specs.Line.{lines}
 use Rattle.command.specs.declared.command.Command.{Command}
 use Rattle.command.specs.declared.part.Part.{Part}
 use Rattle.command.specs.Commands.{command}
-use Rattle.job.specs.Jobs.{Stage, draft, survey, Turn, part, upon, store_cells, sealed, answered, run, printed}
+use Rattle.job.specs.Jobs.{Stage, draft, survey, Turn, part, upon, table_cells, sealed, answered, run, printed}
 use Rattle.job.specs.Reading.{Done, Taken, Told, refusal_of}
 
 refusal_in : (r : Option Refusal) → refusal_of (answer r) ≡ r
@@ -40,20 +39,20 @@ line_done out out' n n' s s' rest rest' a taken done =
     ∙ (λ i. out ++ ((same i).text ++ run (taken.counted i) (same i).stage (lines rest')))
     ∙ ap (λ ls. out ++ run n s ls) (sym taken.cut)
 
--- sealing, from what the check of a new store answered
-pub not_sealed : (line : ℕ) (plan : Plan) (cells : ℕ) (e : Refusal) (out out' : List ℕ) → cells ≡ store_cells plan → Err e ≡ answer (sealing_refusal plan cells) → out' ≡ out ++ refusal_text line e → Done out out' (draft plan) (upon line (sealing_refusal plan (store_cells plan)) (draft plan) (survey (sealed plan)))
+-- sealing, from what the check of a new table answered
+pub not_sealed : (line : ℕ) (plan : Plan) (cells : ℕ) (e : Refusal) (out out' : List ℕ) → cells ≡ table_cells plan → Err e ≡ answer (sealing_refusal plan cells) → out' ≡ out ++ refusal_text line e → Done out out' (draft plan) (upon line (sealing_refusal plan (table_cells plan)) (draft plan) (survey (sealed plan)))
 not_sealed line plan cells e out out' same is told =
-    let r : sealing_refusal plan (store_cells plan) ≡ Some e = ap (sealing_refusal plan) (sym same) ∙ go (sealing_refusal plan cells) is in
+    let r : sealing_refusal plan (table_cells plan) ≡ Some e = ap (sealing_refusal plan) (sym same) ∙ go (sealing_refusal plan cells) is in
     subst (λ o. Done out out' (draft plan) (upon line o (draft plan) (survey (sealed plan)))) (sym r) (record { grown = told; come = refl })
   where
     go : (o : Option Refusal) → Err e ≡ answer o → o ≡ Some e
     go None h = absurd (let z : ◌≡◌ {A = ℕ} 0 1 = cc in omega arith)
     go (Some x) h = cc
 
-pub is_sealed : (line : ℕ) (plan : Plan) (cells : ℕ) (store : Stored) (out : List ℕ) → cells ≡ store_cells plan → Ok tt ≡ answer (sealing_refusal plan cells) → store ≡ fresh (store_cells plan) (store_cells plan) → Done out out (survey (just-sealed plan 1 store)) (upon line (sealing_refusal plan (store_cells plan)) (draft plan) (survey (sealed plan)))
+pub is_sealed : (line : ℕ) (plan : Plan) (cells : ℕ) (store : Stored) (out : List ℕ) → cells ≡ table_cells plan → Ok tt ≡ answer (sealing_refusal plan cells) → store ≡ fresh (table_cells plan) (table_cells plan) → Done out out (survey (surveyed plan 1 store)) (upon line (sealing_refusal plan (table_cells plan)) (draft plan) (survey (sealed plan)))
 is_sealed line plan cells store out same is new =
-    let r : sealing_refusal plan (store_cells plan) ≡ None = ap (sealing_refusal plan) (sym same) ∙ go (sealing_refusal plan cells) is in
-    subst (λ o. Done out out (survey (just-sealed plan 1 store)) (upon line o (draft plan) (survey (sealed plan)))) (sym r) (record { grown = sym (append-nil out); come = ap (λ s. survey (just-sealed plan 1 s)) new })
+    let r : sealing_refusal plan (table_cells plan) ≡ None = ap (sealing_refusal plan) (sym same) ∙ go (sealing_refusal plan cells) is in
+    subst (λ o. Done out out (survey (surveyed plan 1 store)) (upon line o (draft plan) (survey (sealed plan)))) (sym r) (record { grown = sym (append-nil out); come = ap (λ s. survey (surveyed plan 1 s)) new })
   where
     go : (o : Option Refusal) → Ok tt ≡ answer o → o ≡ None
     go None h = refl

@@ -1,5 +1,5 @@
 -- What a job prints, from its bytes: a plain machine that is fed with its lines.
-use Rattle.std.specs.Prelude.{ℕ, ◌+◌, min, cond, List, [], ◌∷◌, ◌++◌, length, Some, None, Ok, Err, Option, Result, nat_lt}
+use Rattle.std.specs.Prelude.{ℕ, ◌+◌, min, cond, List, [], ◌∷◌, ◌++◌, length, Ok, Err, Option, Result, nat_lt}
 use Rattle.refusal.specs.declared.Refusal.{Refusal}
 use Rattle.refusal.specs.declared.Refusal.TheVariants.{Misspelt}
 use Rattle.refusal.specs.Checks.{leaves}
@@ -10,9 +10,7 @@ use Rattle.verdict.specs.Spans.{span_ops}
 use Rattle.verdict.specs.Text.{yesno_text, margin_text, span_text}
 use Rattle.network.specs.Measures.{Extend, by_hops, by_lengths, by_drops}
 use Rattle.plan.specs.Plans.{Plan, cells, size_refusal, opened, pipe_refusal, with_pipe, row_refusal, with_row}
-use Rattle.survey.specs.Surveys.{Surveyed, sealing_refusal}
-use Rattle.survey.specs.Surveys.{sealed as just-sealed}
-use Rattle.survey.specs.Machine.{Call.entry, refusal, accepted}
+use Rattle.survey.specs.Surveys.{Surveyed, surveyed, sealing_refusal, entry_refusal, with_entry}
 use Rattle.report.specs.Texts.{refusal_text, unless_refused, sheet_report}
 use Rattle.line.specs.Line.{lines}
 use Rattle.command.specs.declared.part.Part.{Part}
@@ -46,15 +44,15 @@ turn stage text = record { stage = stage; text = text }
 
 -- a call that may be refused: a refusal is printed and changes nothing, an accepted call prints nothing
 abbrev pub upon : ℕ → Option Refusal → Stage → Stage → Turn
-upon line refused old new = turn (leaves refused old new) (unless_refused line refused [])
+upon line refusal old new = turn (leaves refusal old new) (unless_refused line refusal [])
 
--- a job's store has the plan's cells, but at most 1,024, and room for all of them
-abbrev pub store_cells : Plan → ℕ
-store_cells plan = min (cells plan) 1024
+-- a job's table has the plan's cells, but at most 1,024
+abbrev pub table_cells : Plan → ℕ
+table_cells plan = min (cells plan) 1024
 
--- sealing makes a survey, number 1, of the draft and a new store
+-- sealing makes a survey, number 1, of the draft and a new table
 abbrev pub sealed : Plan → Surveyed
-sealed plan = just-sealed plan 1 (fresh (store_cells plan) (store_cells plan))
+sealed plan = surveyed plan 1 (fresh (table_cells plan) (table_cells plan))
 
 abbrev pub measure : MeasureName → Extend
 measure Hops = by_hops
@@ -80,7 +78,7 @@ obeyed line (draft plan) (Open places steps channels) = turn (draft plan) []
 obeyed line (draft plan) (LayPipe e) = upon line (pipe_refusal plan e) (draft plan) (draft (with_pipe plan e))
 obeyed line (draft plan) (WriteRow r) = upon line (row_refusal plan r) (draft plan) (draft (with_row plan r))
 obeyed line (draft plan) Seal =
-    upon line (sealing_refusal plan (store_cells plan)) (draft plan) (survey (sealed plan))
+    upon line (sealing_refusal plan (table_cells plan)) (draft plan) (survey (sealed plan))
 obeyed line (draft plan) (Enter c p t low high) = turn (draft plan) []
 obeyed line (draft plan) (DrawSheet kind m) = turn (draft plan) []
 obeyed line (survey s) (Open places steps channels) = turn (survey s) []
@@ -88,7 +86,7 @@ obeyed line (survey s) (LayPipe e) = turn (survey s) []
 obeyed line (survey s) (WriteRow r) = turn (survey s) []
 obeyed line (survey s) Seal = turn (survey s) []
 obeyed line (survey s) (Enter c p t low high) =
-    upon line (refusal s (entry c p t low high)) (survey s) (survey (accepted s (entry c p t low high)))
+    upon line (entry_refusal s c p t low high) (survey s) (survey (with_entry s c p t low high))
 obeyed line (survey s) (DrawSheet kind m) = turn (survey s) (kind_report kind (measure m) s line)
 
 -- a line that asks for nothing is refused

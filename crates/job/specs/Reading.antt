@@ -1,10 +1,11 @@
 -- What a reader of lines tells, and what a turn of a loop does.
 use Rattle.std.specs.Prelude.{◌≡◌, ℕ, ◌+◌, ◌<◌, List, [], ◌∷◌, ◌++◌, length, Some, None, Ok, Err, Option, Result}
 use Rattle.refusal.specs.declared.Refusal.{Refusal}
-use Rattle.store.specs.Stored.{Stored}
+use Rattle.store.specs.declared.table.Table.{Table}
+use Rattle.store.specs.Tables.{table_of}
 use Rattle.plan.specs.declared.draft.Draft.{Draft}
 use Rattle.plan.specs.Drafts.{plan_of}
-use Rattle.survey.specs.Surveys.{sealed}
+use Rattle.survey.specs.Surveys.{surveyed}
 use Rattle.line.specs.Line.{lines}
 use Rattle.command.specs.declared.part.Part.{Part}
 use Rattle.command.specs.declared.command.Command.{Command}
@@ -34,10 +35,10 @@ abbrev pub opened_stage : Option Draft → Stage
 opened_stage None = blank
 opened_stage (Some d) = draft (plan_of d)
 
--- how far a job has come that may have a store to seal its draft with, by what the store means
-abbrev pub sealed_stage : {S : Type 0} → (S → Stored) → Draft → Option S → Stage
-sealed_stage means d None = draft (plan_of d)
-sealed_stage means d (Some s) = survey (sealed (plan_of d) 1 (means s))
+-- how far a job has come that may have a table to seal its draft with
+abbrev pub sealed_stage : Draft → Option Table → Stage
+sealed_stage d None = draft (plan_of d)
+sealed_stage d (Some t) = survey (surveyed (plan_of d) 1 (table_of t))
 
 -- the refusal in a call's answer
 abbrev pub refusal_of : Result (Unit {0}) Refusal → Option Refusal

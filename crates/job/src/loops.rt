@@ -1,5 +1,6 @@
 // The three loops of a job, each of which owns what the job then holds.
 ghost use Rattle.std.specs.Prelude.{◌≡◌, IfOk, string_bytes, MatchOption, OnOk};
+ghost use Rattle.store.specs.Tables.{table_of};
 ghost use Rattle.plan.specs.Drafts.{plan_of};
 ghost use Rattle.survey.specs.Surveys.{survey_of};
 ghost use Rattle.job.specs.Jobs.{blank as at_blank, draft as at_draft, survey as at_survey, printed, job_text};
@@ -11,7 +12,7 @@ use plan::Draft;
 use refusal::Refusal;
 use report::write_refusal;
 use std::alloc::{AllocError, Global};
-use store::{NewStore, Store};
+use store::{Store, Table};
 use survey::Survey;
 
 // The most bytes of a job that is run.
@@ -40,20 +41,20 @@ fn await_draft(
 }
 
 // Lines up to the one that seals the draft.
-fn await_survey<S: NewStore + Drop>(
+fn await_survey(
     heap: Global,
     reader: &mut Reader,
     mut draft: Draft,
     out: &mut String,
-) -> Result<Option<Survey<S>>, AllocError>
+) -> Result<Option<Survey<Table>>, AllocError>
     requires part { reader.old.part ≡ Part.Drafting }
     ensures part { IfOk result (λ o. MatchOption o (reader.new.part ≡ Part.Drafting) (λ _. reader.new.part ≡ Part.Sealed)) }
-    ensures prints { IfOk result (λ o. MatchOption o (string_bytes out.new ≡ printed (string_bytes out.old) reader.old.lines.number (at_draft (plan_of draft)) reader.old.lines.rest.now) (λ s. printed (string_bytes out.new) reader.new.lines.number (at_survey (survey_of S.Store.most S.Readings.ranges s)) reader.new.lines.rest.now ≡ printed (string_bytes out.old) reader.old.lines.number (at_draft (plan_of draft)) reader.old.lines.rest.now)) }
+    ensures prints { IfOk result (λ o. MatchOption o (string_bytes out.new ≡ printed (string_bytes out.old) reader.old.lines.number (at_draft (plan_of draft)) reader.old.lines.rest.now) (λ s. printed (string_bytes out.new) reader.new.lines.number (at_survey (survey_of (λ t. (table_of t).capacity) (λ t. (table_of t).ranges) s)) reader.new.lines.rest.now ≡ printed (string_bytes out.old) reader.old.lines.number (at_draft (plan_of draft)) reader.old.lines.rest.now)) }
 {
     while let Some(answer) = reader.next_command(heap)? {
-        if let Some(store) = draft_turn::<S>(heap, reader.line(), answer, &mut draft, out)? {
+        if let Some(table) = draft_turn(heap, reader.line(), answer, &mut draft, out)? {
             reader.go_on(Part::Sealed);
-            return Ok(Some(Survey::seal(draft, store, SURVEY_NUMBER)));
+            return Ok(Some(Survey::seal(draft, table, SURVEY_NUMBER)));
         }
     }
     Ok(None)
@@ -75,8 +76,8 @@ fn use_survey<S: Store + Drop>(
     Ok(())
 }
 
-// The text that a job prints, with the survey's readings in a store of this type. It is the same for every store.
-pub fn run_job<S: NewStore + Drop>(heap: Global, job: &[u8]) -> Result<String, AllocError>
+// The text that a job prints.
+pub fn run_job(heap: Global, job: &[u8]) -> Result<String, AllocError>
     ensures { IfOk result (λ s. string_bytes s ≡ job_text job.now) }
 {
     let mut out = String::new(heap);
@@ -88,7 +89,7 @@ pub fn run_job<S: NewStore + Drop>(heap: Global, job: &[u8]) -> Result<String, A
     let Some(draft) = await_draft(heap, &mut reader, &mut out)? else {
         return Ok(out);
     };
-    let Some(survey) = await_survey::<S>(heap, &mut reader, draft, &mut out)? else {
+    let Some(survey) = await_survey(heap, &mut reader, draft, &mut out)? else {
         return Ok(out);
     };
     use_survey(heap, &mut reader, survey, &mut out)?;

@@ -1,6 +1,5 @@
 // What one line does at each stage of a job.
 ghost use Rattle.std.specs.Prelude.{◌≡◌, [], ◌++◌, IfOk, None, Ok, string_bytes, OnOk};
-ghost use Rattle.store.specs.Stored.{stored};
 ghost use Rattle.plan.specs.Drafts.{plan_of};
 ghost use Rattle.survey.specs.Surveys.{survey_of};
 ghost use Rattle.report.specs.Texts.{unless_refused};
@@ -14,10 +13,10 @@ use plan::{Draft, Row};
 use refusal::Refusal;
 use report::write_refusal;
 use std::alloc::{AllocError, Global};
-use store::{NewStore, Store};
+use store::{Readings, Store, Table};
 use survey::Survey;
 
-// The most cells that a job's store has.
+// The most cells that a job's table has.
 const MOST_CELLS: usize = 1_024;
 
 // A call's refusal is printed; an accepted call prints nothing.
@@ -79,73 +78,67 @@ pub(crate) fn blank_turn(
     }
 }
 
-// A store to seal the draft with, if it has the plan's cells.
-fn store_for<S: NewStore + Drop>(
+// A table to seal the draft with, if it has the plan's cells.
+fn table_for(
     heap: Global,
     line: usize,
     draft: &Draft,
     out: &mut String,
-) -> Result<Option<S>, AllocError>
-    ensures { IfOk result (λ o. Done (string_bytes out.old) (string_bytes out.new) (sealed_stage (λ s. stored (S.Store.most s) (S.Readings.ranges s)) draft.now o) (obeyed line (at_draft (plan_of draft.now)) Command.Seal)) }
+) -> Result<Option<Table>, AllocError>
+    ensures { IfOk result (λ o. Done (string_bytes out.old) (string_bytes out.new) (sealed_stage draft.now o) (obeyed line (at_draft (plan_of draft.now)) Command.Seal)) }
 {
-    let store = S::with_room(heap, draft.cells().min(MOST_CELLS))?;
-    if let Err(refusal) = Survey::check(draft, &store) {
+    let table = Table::new(heap, draft.cells().min(MOST_CELLS))?;
+    if let Err(refusal) = Survey::check(draft, &table) {
         write_refusal(heap, line, refusal, out)?;
         return Ok(None);
     }
-    Ok(Some(store))
+    Ok(Some(table))
 }
 
-// Lays a pipe.
+// Lays a pipe. There is no table to seal with yet.
 fn lay_pipe(
     heap: Global,
     line: usize,
     pipe: Pipe,
     draft: &mut Draft,
     out: &mut String,
-) -> Result<(), AllocError>
-    ensures { OnOk result (Done (string_bytes out.old) (string_bytes out.new) (at_draft (plan_of draft.new)) (obeyed line (at_draft (plan_of draft.old)) (Command.LayPipe pipe))) }
+) -> Result<Option<Table>, AllocError>
+    ensures { IfOk result (λ o. Done (string_bytes out.old) (string_bytes out.new) (sealed_stage draft.new o) (obeyed line (at_draft (plan_of draft.old)) (Command.LayPipe pipe))) }
 {
     let answer = draft.add_pipe(pipe);
     tell(heap, line, answer, out)?;
-    Ok(())
+    Ok(None)
 }
 
-// Writes a row.
+// Writes a row. There is no table to seal with yet.
 fn write_row(
     heap: Global,
     line: usize,
     row: Row,
     draft: &mut Draft,
     out: &mut String,
-) -> Result<(), AllocError>
-    ensures { OnOk result (Done (string_bytes out.old) (string_bytes out.new) (at_draft (plan_of draft.new)) (obeyed line (at_draft (plan_of draft.old)) (Command.WriteRow row))) }
+) -> Result<Option<Table>, AllocError>
+    ensures { IfOk result (λ o. Done (string_bytes out.old) (string_bytes out.new) (sealed_stage draft.new o) (obeyed line (at_draft (plan_of draft.old)) (Command.WriteRow row))) }
 {
     let answer = draft.add_row(row);
     tell(heap, line, answer, out)?;
-    Ok(())
+    Ok(None)
 }
 
 // A line while the draft is open.
-pub(crate) fn draft_turn<S: NewStore + Drop>(
+pub(crate) fn draft_turn(
     heap: Global,
     line: usize,
     answer: Result<Command, Refusal>,
     draft: &mut Draft,
     out: &mut String,
-) -> Result<Option<S>, AllocError>
-    ensures { IfOk result (λ o. Done (string_bytes out.old) (string_bytes out.new) (sealed_stage (λ s. stored (S.Store.most s) (S.Readings.ranges s)) draft.new o) (answered line (at_draft (plan_of draft.old)) answer)) }
+) -> Result<Option<Table>, AllocError>
+    ensures { IfOk result (λ o. Done (string_bytes out.old) (string_bytes out.new) (sealed_stage draft.new o) (answered line (at_draft (plan_of draft.old)) answer)) }
 {
     match answer {
-        Ok(Command::LayPipe(pipe)) => {
-            lay_pipe(heap, line, pipe, draft, out)?;
-            Ok(None)
-        }
-        Ok(Command::WriteRow(row)) => {
-            write_row(heap, line, row, draft, out)?;
-            Ok(None)
-        }
-        Ok(Command::Seal) => store_for(heap, line, draft, out),
+        Ok(Command::LayPipe(pipe)) => lay_pipe(heap, line, pipe, draft, out),
+        Ok(Command::WriteRow(row)) => write_row(heap, line, row, draft, out),
+        Ok(Command::Seal) => table_for(heap, line, draft, out),
         Ok(_) => Ok(None),
         Err(refusal) => {
             write_refusal(heap, line, refusal, out)?;

@@ -1,19 +1,16 @@
 -- Columns of verdicts, and routes that stay among the places.
-use Rattle.std.proofs.Common.{◌≡◌, ℕ, zero, suc, ◌+◌, ◌<◌, ◌≤◌, Bool, true, false, ◌&&◌, leb, List, [], ◌∷◌, map, length, get_or, Some, None, Option, sym, refl, ap, ◌∙◌, subst, arith, leb-true}
+use Rattle.std.proofs.Common.{◌≡◌, ℕ, zero, suc, ◌+◌, ◌<◌, ◌≤◌, Bool, true, false, ◌&&◌, leb, List, [], ◌∷◌, map, length, get_or, Some, None, Option, sym, refl, ◌∙◌, subst, arith, leb-true}
 use Rattle.std.specs.List.{range_with_len}
 use Rattle.std.proofs.lemmas.List.FromFn.{length-map-range_with_len, get_or-map-range_with_len}
 use Rattle.verdict.specs.Algebra.{Ops, Laws}
 use Rattle.verdict.specs.Least.{Least}
 use Rattle.network.specs.declared.pipe.Pipe.{Pipe}
 use Rattle.network.specs.Measures.{Extend, Measures}
-use Rattle.network.specs.Routes.{Ends, Joined, Stands, Leads, Reaching}
+use Rattle.network.specs.Routes.{Joined, Stands, Leads, Reaching}
 use Rattle.space.specs.Along.{along}
 use Rattle.space.specs.Levels.{cap, reached, val}
-use Rattle.network.proofs.Cuts.{joined_mem}
-use Rattle.network.specs.Shortest.{Escaping}
-use Rattle.space.specs.Escape.{escaped}
+use Rattle.space.proofs.Cuts.{joined_mem}
 use Rattle.space.proofs.Reaches.{reaches}
-use Rattle.space.proofs.Escapes.{escapes}
 use Rattle.plan.specs.Rows.{are_distances}
 use Rattle.monitor.specs.Verdicts.{column}
 use Rattle.monitor.proofs.Windows.{least_like}
@@ -63,10 +60,3 @@ reach_least {V} {o} ls {x} ms t places pipes joined r s a b ok p hp =
     least_like ls
     (λ u. along_like o (val o (column places r)) r (val o (column places s)) s (Stands t) places pipes joined (λ k lt. column_at places r k o.bottom lt) (λ k lt. column_at places s k o.bottom lt) p u.over hp u.leads)
     (reaches ls ms t pipes (column places r) (column places s) a b (column_length places s ∙ sym (column_length places r)) (subst (λ n. Joined n pipes) (sym (column_length places r)) joined) (omega (arith, small a b ok)) p (subst (λ n. p < n) (sym (column_length places r)) hp))
-
--- what the routes to all places come to
-pub escape_least : {V : Type 0} {o : Ops V} (ls : Laws o) {x : Extend} (ms : Measures x) (t places : ℕ) (pipes : List Pipe) → Joined places pipes → (r : ℕ → V) (a : ℕ) (b : Option ℕ) (p : ℕ) → p < places → Least o (Escaping x t pipes a b p) (λ u. along o r r p u.over) (escaped o x t pipes (column places r) a b p)
-escape_least {V} {o} ls {x} ms t places pipes joined r a b p hp =
-    least_like ls
-    (λ u. along_like o (val o (column places r)) r (val o (column places r)) r (Stands t) places pipes joined (λ k lt. column_at places r k o.bottom lt) (λ k lt. column_at places r k o.bottom lt) p u.over hp u.leads)
-    (escapes ls ms t pipes (column places r) a b (subst (λ n. Joined n pipes) (sym (column_length places r)) joined) p (subst (λ n. p < n) (sym (column_length places r)) hp))

@@ -1,20 +1,19 @@
 -- A board is filled position by position.
-use Rattle.std.proofs.Common.{◌≡◌, ℕ, suc, ◌+◌, ◌*◌, ◌<◌, ◌≤◌, Bool, true, ◌≢◌, ◌⊎◌, List, length, get_or, set, Some, None, Option, sym, refl, ap, ◌∙◌, subst, inl, inr, arith, get_or-set_other, get_or-set_same, ltb-false}
+use Rattle.std.proofs.Common.{◌≡◌, ℕ, ◌+◌, ◌*◌, ◌<◌, ◌≤◌, Bool, true, ◌≢◌, ◌⊎◌, List, length, get_or, set, Some, None, Option, sym, refl, ap, ◌∙◌, subst, inl, inr, arith, get_or-set_other, get_or-set_same, ltb-false}
 use Rattle.std.proofs.str.Laws.{order}
 use Rattle.refusal.specs.declared.Refusal.{Refusal}
 use Rattle.refusal.proofs.Passing.{passed}
 use Rattle.reading.specs.Ends.{Ends}
 use Rattle.verdict.specs.Algebra.{Ops}
 use Rattle.network.specs.Measures.{Extend}
-use Rattle.space.specs.Levels.{val, reached}
-use Rattle.space.specs.Escape.{escaped}
+use Rattle.space.specs.Levels.{reached}
 use Rattle.plan.specs.declared.statement.Statement.{Statement}
-use Rattle.plan.specs.declared.statement.Statement.TheVariants.{AtLeast, Not, And, Or, Until, Since, Reach, Escape, Yes}
+use Rattle.plan.specs.declared.statement.Statement.TheVariants.{AtLeast, Not, And, Or, Until, Since, Reach, Yes}
 use Rattle.plan.specs.Rows.{refers, Ordered}
 use Rattle.plan.specs.Plans.{Plan, index}
 use Rattle.monitor.specs.Meaning.{Sheet, row_at}
 use Rattle.monitor.specs.Verdicts.{value, verdict}
-use Rattle.monitor.specs.Boards.{area, shown, sheet_checks, sheet_refusal, Filled, Beyond, Drawn, Leaves, OverSpace}
+use Rattle.monitor.specs.Boards.{area, shown, sheet_checks, sheet_refusal, Filled, Beyond, Drawn, Leaves, Prepared}
 use Rattle.monitor.proofs.Columns.{column_like}
 use Rattle.monitor.proofs.OneSheet.{is_below, left_of, right_of, says_like, settles}
 use Rattle.monitor.proofs.Positions.{earlier, injective, next_place, start}
@@ -93,30 +92,20 @@ pub room_for : (plan : Plan) (readings : ℕ → Ends) (ranged : Bool) (board wo
 room_for plan readings ranged board work e =
     omega (arith, ltb-false board (area plan) (passed (sheet_checks plan readings ranged board work) e).1.0, first_past plan)
 
--- the verdicts of a row over space do not depend on its own row
-pub over_space_like : {V : Type 0} (o : Ops V) (x : Extend) (plan : Plan) (f g : Sheet V) (t : ℕ) (verdicts : List V) (s : Statement) (i : ℕ) → refers i s ≡ true → ((r p : ℕ) → r < i → p < plan.places → f r t p ≡ g r t p) → OverSpace o x plan f t verdicts s → OverSpace o x plan g t verdicts s
-over_space_like o x plan f g t verdicts (AtLeast c k) i ref e h = h
-over_space_like o x plan f g t verdicts (Not r) i ref e h = h
-over_space_like o x plan f g t verdicts (And r s) i ref e h = h
-over_space_like o x plan f g t verdicts (Or r s) i ref e h = h
-over_space_like o x plan f g t verdicts (Until r s a b) i ref e h = h
-over_space_like o x plan f g t verdicts (Since r s a b) i ref e h = h
-over_space_like o x plan f g t verdicts (Reach r s a b) i ref e h = λ p hp.
+-- what is prepared for a statement does not depend on its own row
+pub prepared_like : {V : Type 0} (o : Ops V) (x : Extend) (plan : Plan) (f g : Sheet V) (t : ℕ) (work : List V) (s : Statement) (i : ℕ) → refers i s ≡ true → ((r p : ℕ) → r < i → p < plan.places → f r t p ≡ g r t p) → Prepared o x plan f t work s → Prepared o x plan g t work s
+prepared_like o x plan f g t work (AtLeast c k) i ref e h = h
+prepared_like o x plan f g t work (Not r) i ref e h = h
+prepared_like o x plan f g t work (And r s) i ref e h = h
+prepared_like o x plan f g t work (Or r s) i ref e h = h
+prepared_like o x plan f g t work (Until r s a b) i ref e h = h
+prepared_like o x plan f g t work (Since r s a b) i ref e h = h
+prepared_like o x plan f g t work (Reach r s a b) i ref e h = λ p hp.
     h p hp ∙ (λ j. reached o x t plan.pipes (column_like plan.places (f r t) (g r t) (λ k lt. e r k (is_below r i (left_of _ _ ref)) lt) j) (column_like plan.places (f s t) (g s t) (λ k lt. e s k (is_below s i (right_of _ _ ref)) lt) j) a b p)
-over_space_like o x plan f g t verdicts (Escape r a b) i ref e h = λ p hp.
-    h p hp ∙ (λ j. escaped o x t plan.pipes (column_like plan.places (f r t) (g r t) (λ k lt. e r k (is_below r i ref) lt) j) a b p)
-over_space_like o x plan f g t verdicts Yes i ref e h = h
+prepared_like o x plan f g t work Yes i ref e h = h
 
 -- writing a verdict leaves the rows before it
 pub row_kept : {V : Type 0} (plan : Plan) (board : List V) (d v : V) (i t p k : ℕ) → k ≡ index plan i t p → (r u q : ℕ) → r < i → u < plan.steps → q < plan.places → shown plan board d r u q ≡ shown plan (set board k v) d r u q
 row_kept plan board d v i t p k at-k r u q hr hu hq =
     let ne : index plan r u q ≢ k = omega (arith, earlier plan.steps plan.places r i u q t p hr hu hq) in
     sym (get_or-set_other board k (index plan r u q) v d ne)
-
--- the verdicts of a row over space are those that it has over the board
-module _ {V : Type 0} (o : Ops V) (x : Extend) (plan : Plan) (readings : ℕ → Ends) (f : Sheet V) (t : ℕ) (verdicts : List V) (p : ℕ) (hp : p < plan.places) where
-  pub space_read : (said : Statement) → ((r : ℕ) × (s : ℕ) × (a : ℕ) × (b : Option ℕ) × (said ≡ Reach r s a b)) ⊎ ((r : ℕ) × (a : ℕ) × (b : Option ℕ) × (said ≡ Escape r a b)) → OverSpace o x plan f t verdicts said → val o verdicts p ≡ value o x plan readings f said t p
-  space_read said (inl (r, s, a, b, is)) h =
-      subst (λ w. val o verdicts p ≡ value o x plan readings f w t p) (sym is) (subst (OverSpace o x plan f t verdicts) is h p hp)
-  space_read said (inr (r, a, b, is)) h =
-      subst (λ w. val o verdicts p ≡ value o x plan readings f w t p) (sym is) (subst (OverSpace o x plan f t verdicts) is h p hp)

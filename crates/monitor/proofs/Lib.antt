@@ -1,5 +1,5 @@
 -- The one sheet, and how a board is filled.
-pub mod Windows
+mod Windows
 mod Columns
 pub mod OneSheet
 pub mod Positions

@@ -1,20 +1,19 @@
 -- The verdicts are the one and only sheet.
-use Rattle.std.proofs.Common.{◌≡◌, ℕ, zero, suc, ◌+◌, ◌-◌, ◌<◌, ◌≤◌, min, Bool, true, false, ◌&&◌, ltb, length, sym, refl, ap, ◌∙◌, subst, arith, ltb-true}
+use Rattle.std.proofs.Common.{◌≡◌, ℕ, zero, suc, ◌+◌, ◌-◌, ◌<◌, min, Bool, true, false, ◌&&◌, ltb, length, sym, refl, ap, ◌∙◌, subst, arith, ltb-true}
 use Rattle.reading.specs.Ends.{Ends}
 use Rattle.verdict.specs.Algebra.{Ops, Laws}
 use Rattle.verdict.proofs.Order.{least_unique}
 use Rattle.network.specs.Measures.{Extend, Measures}
 use Rattle.network.specs.Routes.{Joined}
 use Rattle.space.specs.Levels.{reached}
-use Rattle.space.specs.Escape.{escaped}
 use Rattle.plan.specs.declared.statement.Statement.{Statement}
-use Rattle.plan.specs.declared.statement.Statement.TheVariants.{AtLeast, Not, And, Or, Until, Since, Reach, Escape, Yes}
+use Rattle.plan.specs.declared.statement.Statement.TheVariants.{AtLeast, Not, And, Or, Until, Since, Reach, Yes}
 use Rattle.plan.specs.Rows.{refers, has_interval, Ordered, Intervals}
 use Rattle.plan.specs.Plans.{Plan}
 use Rattle.monitor.specs.Meaning.{Sheet, row_at, Means, IsSheet}
 use Rattle.monitor.specs.Verdicts.{value, below, verdict, OneSheet}
 use Rattle.monitor.proofs.Windows.{windowed_like, later_least, earlier_least}
-use Rattle.monitor.proofs.Columns.{column_like, reach_least, escape_least}
+use Rattle.monitor.proofs.Columns.{column_like, reach_least}
 
 pub left_of : (a b : Bool) → (a && b) ≡ true → a ≡ true
 left_of true b e = refl
@@ -59,8 +58,6 @@ module _ {V : Type 0} (o : Ops V) (x : Extend) (plan : Plan) (readings : ℕ →
       (λ k lt. e s (t - k) p (is_below s i (right_of _ _ ref)) (omega arith) hp)
   says_like f g (Reach r s a b) i t p ref ht hp e =
       λ j. reached o x t plan.pipes (column_like plan.places (f r t) (g r t) (λ k lt. e r t k (is_below r i (left_of _ _ ref)) ht lt) j) (column_like plan.places (f s t) (g s t) (λ k lt. e s t k (is_below s i (right_of _ _ ref)) ht lt) j) a b p
-  says_like f g (Escape r a b) i t p ref ht hp e =
-      λ j. escaped o x t plan.pipes (column_like plan.places (f r t) (g r t) (λ k lt. e r t k (is_below r i ref) ht lt) j) a b p
   says_like f g Yes i t p ref ht hp e = refl
 
   module _ (ordered : Ordered plan.rows) where
@@ -88,8 +85,6 @@ module _ {V : Type 0} (o : Ops V) (x : Extend) (plan : Plan) (readings : ℕ →
       value_means f (Since r s a b) t p ok ht hp = earlier_least ls (λ k. f r (t - k) p) (λ k. f s (t - k) p) a t b
       value_means f (Reach r s a b) t p ok ht hp =
           reach_least ls ms t plan.places plan.pipes joined (f r t) (f s t) a b ok p hp
-      value_means f (Escape r a b) t p ok ht hp =
-          escape_least ls ms t plan.places plan.pipes joined (f r t) a b p hp
       value_means f Yes t p ok ht hp = refl
 
       -- and nothing else has
@@ -101,7 +96,6 @@ module _ {V : Type 0} (o : Ops V) (x : Extend) (plan : Plan) (readings : ℕ →
       means_unique f (Until r s a b) t p v w mv mw = least_unique ls mv mw
       means_unique f (Since r s a b) t p v w mv mw = least_unique ls mv mw
       means_unique f (Reach r s a b) t p v w mv mw = least_unique ls mv mw
-      means_unique f (Escape r a b) t p v w mv mw = least_unique ls mv mw
       means_unique f Yes t p v w mv mw = mv ∙ sym mw
 
       -- the meaning asks only for the rows that the statement refers to

@@ -1,5 +1,5 @@
 -- The order of the positions on a board: by row, then by step, then by place.
-use Rattle.std.proofs.Common.{◌≡◌, ℕ, suc, ◌+◌, ◌*◌, ◌/◌, ◌%◌, ◌<◌, ◌≤◌, true, ltb, sym, refl, ap, ◌∙◌, mul-le-mul_right, add-mul, one-mul, arith, ltb-true}
+use Rattle.std.proofs.Common.{◌≡◌, ℕ, ◌+◌, ◌*◌, ◌/◌, ◌%◌, ◌<◌, ◌≤◌, true, ltb, sym, ap, ◌∙◌, mul-le-mul_right, add-mul, one-mul, arith, ltb-true}
 use Rattle.plan.specs.Plans.{Plan, index}
 use lib.Arith.{digits_div, digits_mod}
 

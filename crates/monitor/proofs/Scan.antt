@@ -1,5 +1,5 @@
 -- The search for a cell that is not exact.
-use Rattle.std.proofs.Common.{◌≡◌, ℕ, suc, ◌+◌, ◌-◌, ◌<◌, ◌≤◌, cond, Some, None, sym, refl, ap, ◌∙◌, add-one, arith}
+use Rattle.std.proofs.Common.{◌≡◌, ℕ, suc, ◌+◌, ◌-◌, ◌<◌, ◌≤◌, cond, Some, None, sym, ap, ◌∙◌, add-one, arith}
 use Rattle.reading.specs.Ends.{Ends, is_exact}
 use Rattle.monitor.specs.Boards.{inexact}
 

@@ -1,5 +1,5 @@
 -- Boards: where each verdict of a sheet stands, and when a sheet is refused.
-use Rattle.std.specs.Prelude.{◌≡◌, ℕ, zero, suc, ◌+◌, ◌*◌, ◌<◌, ◌≤◌, Bool, true, false, cond, List, [], ◌∷◌, length, Some, None, Option, ◌==◌, nat_lt, slice_index_or}
+use Rattle.std.specs.Prelude.{◌≡◌, ℕ, zero, suc, ◌*◌, ◌<◌, ◌≤◌, Bool, true, false, cond, List, [], ◌∷◌, length, Some, None, Option, ◌==◌, nat_lt, slice_index_or}
 use Rattle.refusal.specs.declared.Refusal.{Refusal}
 use Rattle.refusal.specs.declared.Refusal.TheVariants.{NoRow, ShortBoard, ShortWork, NotExact}
 use Rattle.refusal.specs.Checks.{Check, first}
@@ -7,10 +7,9 @@ use Rattle.reading.specs.Ends.{Ends, is_exact}
 use Rattle.plan.specs.Plans.{Plan, cells, index}
 use Rattle.verdict.specs.Algebra.{Ops}
 use Rattle.network.specs.Measures.{Extend}
-use Rattle.space.specs.Levels.{val, reached}
-use Rattle.space.specs.Escape.{escaped}
+use Rattle.space.specs.Levels.{gathered, reached}
 use Rattle.plan.specs.declared.statement.Statement.{Statement}
-use Rattle.plan.specs.declared.statement.Statement.TheVariants.{AtLeast, Not, And, Or, Until, Since, Reach, Escape, Yes}
+use Rattle.plan.specs.declared.statement.Statement.TheVariants.{AtLeast, Not, And, Or, Until, Since, Reach, Yes}
 use Rattle.monitor.specs.Meaning.{Sheet}
 use Rattle.monitor.specs.Verdicts.{column}
 
@@ -62,17 +61,15 @@ abbrev pub Leaves : {V : Type 0} → Option Refusal → Plan → Sheet V → (ol
 Leaves None plan f old new old-work new-work = Drawn plan f old new
 Leaves (Some e) plan f old new old-work new-work = (new ≡ old) × (new-work ≡ old-work)
 
--- for a row over space, a list holds the statement's verdicts at step t; of another row nothing is said
-module _ {V : Type 0} (o : Ops V) (x : Extend) (plan : Plan) (f : Sheet V) (t : ℕ) (verdicts : List V) where
-  abbrev pub OverSpace : Statement → Type 0
-  OverSpace (AtLeast c k) = Unit {0}
-  OverSpace (Not r) = Unit {0}
-  OverSpace (And r s) = Unit {0}
-  OverSpace (Or r s) = Unit {0}
-  OverSpace (Until r s a b) = Unit {0}
-  OverSpace (Since r s a b) = Unit {0}
-  OverSpace (Reach r s a b) =
-      (p : ℕ) → p < plan.places → val o verdicts p ≡ reached o x t plan.pipes (column plan.places (f r t)) (column plan.places (f s t)) a b p
-  OverSpace (Escape r a b) =
-      (p : ℕ) → p < plan.places → val o verdicts p ≡ escaped o x t plan.pipes (column plan.places (f r t)) a b p
-  OverSpace Yes = Unit {0}
+-- the work holds what a statement's verdicts at step t are taken from: for reach the levels of distance, for the others nothing
+module _ {V : Type 0} (o : Ops V) (x : Extend) (plan : Plan) (f : Sheet V) (t : ℕ) (work : List V) where
+  abbrev pub Prepared : Statement → Type 0
+  Prepared (AtLeast c k) = Unit {0}
+  Prepared (Not r) = Unit {0}
+  Prepared (And r s) = Unit {0}
+  Prepared (Or r s) = Unit {0}
+  Prepared (Until r s a b) = Unit {0}
+  Prepared (Since r s a b) = Unit {0}
+  Prepared (Reach r s a b) =
+      (p : ℕ) → p < plan.places → gathered o plan.places work a b p ≡ reached o x t plan.pipes (column plan.places (f r t)) (column plan.places (f s t)) a b p
+  Prepared Yes = Unit {0}

@@ -2,3 +2,4 @@
 pub mod Meaning
 pub mod Verdicts
 pub mod Boards
+pub mod Cases

@@ -5,10 +5,9 @@ use Rattle.verdict.specs.Algebra.{Ops}
 use Rattle.verdict.specs.Least.{Least}
 use Rattle.network.specs.Measures.{Extend}
 use Rattle.network.specs.Routes.{Reaching}
-use Rattle.network.specs.Shortest.{Escaping}
 use Rattle.space.specs.Along.{along}
 use Rattle.plan.specs.declared.statement.Statement.{Statement}
-use Rattle.plan.specs.declared.statement.Statement.TheVariants.{AtLeast, Not, And, Or, Until, Since, Reach, Escape, Yes}
+use Rattle.plan.specs.declared.statement.Statement.TheVariants.{AtLeast, Not, And, Or, Until, Since, Reach, Yes}
 use Rattle.plan.specs.Plans.{Plan, index}
 
 -- a verdict for each row, step and place
@@ -53,12 +52,9 @@ module _ {V : Type 0} (o : Ops V) (x : Extend) (plan : Plan) (readings : ℕ →
   -- the same over earlier steps
   Means f (Since r s a b) t p v =
       Least o (Earlier t a b) (λ u. o.meet (f s (t - u.ago) p) (throughout o (λ k. f r (t - k) p) u.ago)) v
-  -- the least verdict at or above, for each route from p whose distance lies in the interval, the meet of s at its last place with r at every earlier one
+  -- the least verdict at or above, for each route from p in the interval, the meet of s at its last place with r at every earlier one
   Means f (Reach r s a b) t p v =
       Least o (Reaching x t plan.pipes a b p) (λ u. along o (f r t) (f s t) p u.over) v
-  -- the least verdict at or above, for each route from p whose last place has a shortest distance in the interval, the meet of r at all its places
-  Means f (Escape r a b) t p v =
-      Least o (Escaping x t plan.pipes a b p) (λ u. along o (f r t) (f r t) p u.over) v
   Means f Yes t p v = v ≡ o.top
 
   -- f has at every row, step and place of the plan the verdict that the row means there

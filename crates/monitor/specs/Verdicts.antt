@@ -5,9 +5,8 @@ use Rattle.reading.specs.Ends.{Ends}
 use Rattle.verdict.specs.Algebra.{Ops}
 use Rattle.network.specs.Measures.{Extend}
 use Rattle.space.specs.Levels.{reached}
-use Rattle.space.specs.Escape.{escaped}
 use Rattle.plan.specs.declared.statement.Statement.{Statement}
-use Rattle.plan.specs.declared.statement.Statement.TheVariants.{AtLeast, Not, And, Or, Until, Since, Reach, Escape, Yes}
+use Rattle.plan.specs.declared.statement.Statement.TheVariants.{AtLeast, Not, And, Or, Until, Since, Reach, Yes}
 use Rattle.plan.specs.Plans.{Plan, index}
 use Rattle.monitor.specs.Meaning.{Sheet, row_at, throughout, IsSheet}
 
@@ -33,7 +32,6 @@ module _ {V : Type 0} (o : Ops V) (x : Extend) (plan : Plan) (readings : ℕ →
   value f (Since r s a b) t p = windowed o (λ k. f r (t - k) p) (λ k. f s (t - k) p) a (min (b + 1) (t + 1))
   value f (Reach r s a b) t p =
       reached o x t plan.pipes (column plan.places (f r t)) (column plan.places (f s t)) a b p
-  value f (Escape r a b) t p = escaped o x t plan.pipes (column plan.places (f r t)) a b p
   value f Yes t p = o.top
 
   -- the verdicts of the rows below n; a row refers to rows before it, so n turns settle them

@@ -2,18 +2,19 @@
 ghost use Rattle.std.specs.Prelude.{◌≡◌, ◌+◌, ◌*◌, ◌<◌, ◌≤◌, true, length};
 ghost use Rattle.refusal.specs.Checks.{answer};
 ghost use Rattle.store.specs.Stored.{at};
-ghost use Rattle.plan.specs.Rows.{refers};
+ghost use Rattle.plan.specs.Rows.{refers, has_interval};
 ghost use Rattle.plan.specs.Plans.{cells, index};
 ghost use Rattle.plan.specs.Drafts.{plan_of};
 ghost use Rattle.monitor.specs.Meaning.{row_at};
 ghost use Rattle.monitor.specs.Verdicts.{value, verdict, OneSheet};
-ghost use Rattle.monitor.specs.Boards.{inexact, sheet_refusal, shown, Filled, Beyond, OverSpace, Leaves, Drawn};
+ghost use Rattle.monitor.specs.Boards.{inexact, sheet_refusal, shown, Filled, Beyond, Prepared, Leaves, Drawn};
 
-use crate::space_rows::space_row;
+use crate::space_rows::prepare;
 use crate::time::{since_at, until_at};
 use network::Measure;
 use plan::{Draft, Statement};
 use refusal::Refusal;
+use space::level_verdict;
 use store::Readings;
 use verdict::Kind;
 
@@ -75,14 +76,15 @@ fn verdict_at<K: Kind, M: Measure, S: Readings>(
     step: u32,
     place: u32,
     board: &[K],
-    over: &[K],
+    work: &[K],
 ) -> K
     requires refers { refers row statement ≡ true }
     requires step { step < draft.now.steps }
     requires place { place < draft.now.places }
+    requires interval { has_interval statement ≡ true }
     requires room { index (plan_of draft.now) row 0 0 ≤ length board.now }
-    requires over { length over.now ≡ draft.now.places }
-    requires space { OverSpace K.Kind.ops M.Measure.extend (plan_of draft.now) (shown (plan_of draft.now) board.now K.Kind.ops.bottom) step over.now statement }
+    requires work { 256 * draft.now.places ≤ length work.now }
+    requires prepared { Prepared K.Kind.ops M.Measure.extend (plan_of draft.now) (shown (plan_of draft.now) board.now K.Kind.ops.bottom) step work.now statement }
     ensures { result ≡ value K.Kind.ops M.Measure.extend (plan_of draft.now) (at (S.Readings.ranges readings.now)) (shown (plan_of draft.now) board.now K.Kind.ops.bottom) statement step place }
 {
     match statement {
@@ -110,7 +112,9 @@ fn verdict_at<K: Kind, M: Measure, S: Readings>(
             from,
             upto,
         } => { since_at(draft, hold, goal, from, upto, step, place, board) }
-        Statement::Reach { .. } | Statement::Escape { .. } => over[place as usize],
+        Statement::Reach { from, upto, .. } => {
+            level_verdict(work, draft.places() as usize, from, upto, place as usize)
+        }
         Statement::Yes => K::top(),
     }
 }
@@ -134,11 +138,10 @@ fn draw_step<K: Kind, M: Measure, S: Readings>(
     ensures filled { Filled (plan_of draft.now) (verdict K.Kind.ops M.Measure.extend (plan_of draft.now) (at (S.Readings.ranges readings.now))) (index (plan_of draft.now) row (step + 1) 0) board.new }
     ensures beyond { Beyond (index (plan_of draft.now) row (step + 1) 0) board.old board.new }
 {
-    let (over, rest) = work.split_at_mut(draft.places() as usize);
-    space_row::<K, M>(draft, statement, row, step, board, over, rest);
+    prepare::<K, M>(draft, statement, row, step, board, work);
     for place in 0..draft.places() {
         let verdict = verdict_at::<K, M, S>(
-            draft, readings, statement, row, step, place, board, over,
+            draft, readings, statement, row, step, place, board, work,
         );
         board[draft.index(row, step, place)] = verdict;
     }

@@ -1,8 +1,10 @@
 // The monitor: draws the verdicts of a plan's rows on a board.
 #![tactic(auto)]
 
+mod cases;
 mod drawing;
 mod space_rows;
 mod time;
 
+pub use cases::until_is_bottom_at_the_end;
 pub use drawing::draw;

@@ -1,5 +1,2 @@
--- Pipes that join places, routes cut at a last visit, and shortest distances.
+-- Pipes that join places.
 pub mod Joining
-pub mod Standing
-pub mod Cuts
-pub mod Settling

@@ -1,4 +1,3 @@
--- What measures, routes and shortest distances are.
+-- What measures are.
 pub mod Measures
 pub mod Routes
-pub mod Shortest

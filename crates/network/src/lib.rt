@@ -3,8 +3,6 @@
 
 mod measure;
 mod pipe;
-mod shortest;
 
 pub use measure::{Drops, Hops, Lengths, Measure};
 pub use pipe::Pipe;
-pub use shortest::{distances_to, stands_at};

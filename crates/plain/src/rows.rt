@@ -160,55 +160,6 @@ fn reaches(
     Ok(false)
 }
 
-// Whether some route to a place whose least distance lies in the interval keeps to the threshold everywhere.
-fn escapes(
-    heap: Global,
-    book: &Book,
-    measure: u32,
-    along: &[i32],
-    from: u32,
-    upto: Option<u32>,
-    step: u32,
-    place: u32,
-    threshold: i32,
-) -> Result<bool, AllocError> {
-    let everywhere = passing(heap, along, i32::MIN)?;
-    let all = walk(
-        heap,
-        book.pipes.as_slice(),
-        step,
-        measure,
-        place,
-        everywhere.as_slice(),
-    )?;
-    let allowed = passing(heap, along, threshold)?;
-    let found = walk(
-        heap,
-        book.pipes.as_slice(),
-        step,
-        measure,
-        place,
-        allowed.as_slice(),
-    )?;
-    for (end, value) in along.iter().enumerate() {
-        let end_place = (end % 32) as u32;
-        let mut nearest = None;
-        let mut reached = false;
-        for distance in 0..FAR + 1 {
-            if nearest.is_none() && all.has(end_place, distance) {
-                nearest = Some(distance);
-            }
-            reached = reached || found.has(end_place, distance);
-        }
-        if let Some(distance) = nearest {
-            if reached && *value >= threshold && within(distance, from, upto) {
-                return Ok(true);
-            }
-        }
-    }
-    Ok(false)
-}
-
 // The best verdict of the two columns that reach keeps to.
 fn reach_side(
     heap: Global,
@@ -227,31 +178,6 @@ fn reach_side(
         if *threshold > best
             && reaches(
                 heap, book, measure, through, goal, from, upto, step, place, *threshold,
-            )?
-        {
-            best = *threshold;
-        }
-    }
-    Ok(best)
-}
-
-// The best verdict of the column that escape keeps to.
-fn escape_side(
-    heap: Global,
-    book: &Book,
-    scale: Scale,
-    measure: u32,
-    along: &[i32],
-    from: u32,
-    upto: Option<u32>,
-    step: u32,
-    place: u32,
-) -> Result<i32, AllocError> {
-    let mut best = scale.bottom();
-    for threshold in along {
-        if *threshold > best
-            && escapes(
-                heap, book, measure, along, from, upto, step, place, *threshold,
             )?
         {
             best = *threshold;
@@ -283,33 +209,6 @@ fn reach_end(
         measure,
         passed.as_slice(),
         wanted.as_slice(),
-        from,
-        upto,
-        step,
-        place,
-    )
-}
-
-fn escape_end(
-    heap: Global,
-    book: &Book,
-    sheet: &[Pair],
-    scale: Scale,
-    measure: u32,
-    along: u32,
-    from: u32,
-    upto: Option<u32>,
-    step: u32,
-    place: u32,
-    side: Side,
-) -> Result<i32, AllocError> {
-    let passed = column(heap, book, sheet, along, step, side)?;
-    escape_side(
-        heap,
-        book,
-        scale,
-        measure,
-        passed.as_slice(),
         from,
         upto,
         step,
@@ -394,34 +293,6 @@ fn verdict(
                 measure,
                 through,
                 goal,
-                from,
-                upto,
-                step,
-                place,
-                Side::High,
-            )?,
-        }),
-        Statement::Escape { along, from, upto } => Ok(Pair {
-            low: escape_end(
-                heap,
-                book,
-                sheet,
-                scale,
-                measure,
-                along,
-                from,
-                upto,
-                step,
-                place,
-                Side::Low,
-            )?,
-            high: escape_end(
-                heap,
-                book,
-                sheet,
-                scale,
-                measure,
-                along,
                 from,
                 upto,
                 step,

@@ -132,15 +132,6 @@ fn statement_refusal(book: &Book, statement: Statement) -> u32 {
                 FINE
             }
         }
-        Statement::Escape { along, from, upto } => {
-            if unwritten(book, along, along) {
-                7
-            } else if bad_distances(from, upto) {
-                9
-            } else {
-                FINE
-            }
-        }
         Statement::Yes => FINE,
     }
 }

@@ -1,3 +1,2 @@
--- What a pipe or a row that is taken keeps true of a draft.
+-- What a row that is taken keeps true of the table of rows.
 mod Written
-pub mod Holding

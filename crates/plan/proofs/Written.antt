@@ -1,14 +1,13 @@
 -- What a pipe or a row that is taken keeps true of a draft.
-use Rattle.std.proofs.Common.{◌≡◌, ℕ, zero, suc, ◌+◌, ◌<◌, ◌≤◌, Bool, true, false, not, ◌||◌, leb, ◌⊎◌, List, [], ◌∷◌, ◌++◌, length, get_or, Some, None, Option, sym, refl, ap, ◌∙◌, subst, inl, inr, arith, length-append, leb-false}
+use Rattle.std.proofs.Common.{◌≡◌, ℕ, zero, suc, ◌+◌, ◌<◌, ◌≤◌, Bool, true, false, not, ◌||◌, leb, ◌⊎◌, List, [], ◌∷◌, ◌++◌, length, get_or, None, sym, refl, ap, ◌∙◌, subst, inl, inr, arith, length-append, leb-false}
 use Rattle.std.proofs.str.Laws.{order}
 use Rattle.refusal.proofs.Passing.{passed}
 use Rattle.plan.specs.declared.statement.Statement.{Statement}
-use Rattle.plan.specs.declared.statement.Statement.TheVariants.{Yes}
 use Rattle.plan.specs.declared.statement.Row.TheVariants.{Known}
 use Rattle.network.specs.declared.pipe.Pipe.{Pipe}
 use Rattle.network.specs.Routes.{Ends, all_join}
 use Rattle.network.proofs.Joining.{all_join_push}
-use Rattle.plan.specs.Rows.{refers, names_channel, has_interval, Ordered}
+use Rattle.plan.specs.Rows.{refers, has_interval}
 use Rattle.plan.specs.Plans.{Plan, pipe_checks, pipe_refusal, row_checks, row_refusal}
 
 holds : (b : Bool) → not b ≡ false → b ≡ true
@@ -23,9 +22,6 @@ taken_fits plan s e = leb-false 32 (length plan.rows) (passed (row_checks plan (
 
 pub taken_interval : (plan : Plan) (s : Statement) → None ≡ row_refusal plan (Known s) → has_interval s ≡ true
 taken_interval plan s e = holds (has_interval s) (passed (row_checks plan (Known s)) e).1.1.0
-
-pub taken_named : (plan : Plan) (s : Statement) → None ≡ row_refusal plan (Known s) → names_channel plan.channels s ≡ true
-taken_named plan s e = holds (names_channel plan.channels s) (passed (row_checks plan (Known s)) e).1.0
 
 last_of : {A : Type 0} (xs : List A) (s d : A) → get_or (xs ++ s ∷ []) (length xs) d ≡ s
 last_of [] s d = refl

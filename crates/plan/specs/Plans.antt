@@ -1,5 +1,5 @@
 -- Plans, and the checks of pipes and rows, in checking order.
-use Rattle.std.specs.Prelude.{ℕ, ◌+◌, ◌*◌, min, max, Bool, true, false, not, ◌&&◌, ◌||◌, List, [], ◌∷◌, ◌++◌, length, Option, nat_le, nat_lt}
+use Rattle.std.specs.Prelude.{ℕ, ◌+◌, ◌*◌, min, max, Bool, true, not, ◌&&◌, ◌||◌, List, [], ◌∷◌, ◌++◌, length, Option, nat_le, nat_lt}
 use Rattle.refusal.specs.declared.Refusal.{Refusal}
 use Rattle.refusal.specs.declared.Refusal.TheVariants.{OutsideLimits, NoSuchPlace, NoSuchStep, TooLarge, PipesFull, NoSuchCode, NoSuchRow, NoSuchChannel, NoInterval, RowsFull}
 use Rattle.refusal.specs.Checks.{Check, first}

@@ -1,8 +1,8 @@
 -- What a statement refers to.
-use Rattle.std.specs.Prelude.{◌≡◌, ℕ, ◌<◌, Bool, true, false, ◌&&◌, List, length, Some, None, Option, int_le, nat_le, nat_lt, slice_index_or}
+use Rattle.std.specs.Prelude.{◌≡◌, ℕ, ◌<◌, Bool, true, ◌&&◌, List, length, Some, None, Option, int_le, nat_le, nat_lt, slice_index_or}
 use Rattle.reading.specs.Ends.{lowest, highest}
 use Rattle.plan.specs.declared.statement.Statement.{Statement}
-use Rattle.plan.specs.declared.statement.Statement.TheVariants.{AtLeast, Not, And, Or, Until, Since, Reach, Escape, Yes}
+use Rattle.plan.specs.declared.statement.Statement.TheVariants.{AtLeast, Not, And, Or, Until, Since, Reach, Yes}
 
 -- every row that the statement refers to is among the first n
 abbrev pub refers : ℕ → Statement → Bool
@@ -13,7 +13,6 @@ refers n (Or r s) = nat_lt r n && nat_lt s n
 refers n (Until r s a b) = nat_lt r n && nat_lt s n
 refers n (Since r s a b) = nat_lt r n && nat_lt s n
 refers n (Reach r s a b) = nat_lt r n && nat_lt s n
-refers n (Escape r a b) = nat_lt r n
 refers n Yes = true
 
 -- the channel that the statement reads is one of so many, and its limit lies within the limits of readings
@@ -25,7 +24,6 @@ names_channel channels (Or r s) = true
 names_channel channels (Until r s a b) = true
 names_channel channels (Since r s a b) = true
 names_channel channels (Reach r s a b) = true
-names_channel channels (Escape r a b) = true
 names_channel channels Yes = true
 
 -- a lower distance that is not above the upper one, which may be absent, and neither above 127
@@ -42,7 +40,6 @@ has_interval (Or r s) = true
 has_interval (Until r s a b) = nat_le a b && nat_le b 63
 has_interval (Since r s a b) = nat_le a b && nat_le b 63
 has_interval (Reach r s a b) = are_distances a b
-has_interval (Escape r a b) = are_distances a b
 has_interval Yes = true
 
 -- every row refers only to rows before it
@@ -52,7 +49,3 @@ Ordered rows = (i : ℕ) → i < length rows → refers i (slice_index_or rows i
 -- every row's interval is one
 abbrev pub Intervals : List Statement → Type 0
 Intervals rows = (i : ℕ) → i < length rows → has_interval (slice_index_or rows i Yes) ≡ true
-
--- every row that reads a channel names one of so many
-abbrev pub Named : ℕ → List Statement → Type 0
-Named channels rows = (i : ℕ) → i < length rows → names_channel channels (slice_index_or rows i Yes) ≡ true

@@ -1,7 +1,7 @@
 // The draft of a plan, with what is true of every draft.
 ghost use Rattle.std.specs.Prelude.{◌≡◌, ◌≤◌, true, vec_len, vec_capacity};
 ghost use Rattle.network.specs.Routes.{all_join};
-ghost use Rattle.plan.specs.Rows.{Ordered, Intervals, Named};
+ghost use Rattle.plan.specs.Rows.{Ordered, Intervals};
 
 use crate::statement::Statement;
 use network::Pipe;
@@ -27,5 +27,4 @@ pub struct Draft {
     ghost joined: { all_join places pipes.items ≡ true },
     ghost ordered: { Ordered rows.items },
     ghost intervals: { Intervals rows.items },
-    ghost named: { Named channels rows.items },
 }

@@ -40,7 +40,6 @@ fn refers_below(statement: Statement, count: u32) -> bool
         Statement::Until { hold, goal, .. } => hold < count && goal < count,
         Statement::Since { hold, goal, .. } => hold < count && goal < count,
         Statement::Reach { through, goal, .. } => through < count && goal < count,
-        Statement::Escape { along, .. } => along < count,
         Statement::Yes => true,
     }
 }
@@ -75,7 +74,6 @@ fn spans_interval(statement: Statement) -> bool
         Statement::Until { from, upto, .. } => from <= upto && upto <= 63,
         Statement::Since { from, upto, .. } => from <= upto && upto <= 63,
         Statement::Reach { from, upto, .. } => spans_distances(from, upto),
-        Statement::Escape { from, upto, .. } => spans_distances(from, upto),
         _ => true,
     }
 }

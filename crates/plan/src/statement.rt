@@ -33,18 +33,10 @@ pub enum Statement {
         from: u32,
         upto: u32,
     },
-    // a place where the goal holds is reached through places where `through` holds, over a distance from `from` to `upto`;
-    // an absent `upto` bounds nothing
+    // a place where the goal holds is reached through places where `through` holds, over a distance from `from` to `upto`
     Reach {
         through: u32,
         goal: u32,
-        from: u32,
-        upto: Option<u32>,
-    },
-    // a place whose shortest distance from here, over all routes, lies from `from` to `upto` is reached by a route with
-    // `along` at every place, the first and the last counted; an absent `upto` bounds nothing
-    Escape {
-        along: u32,
         from: u32,
         upto: Option<u32>,
     },

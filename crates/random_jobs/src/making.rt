@@ -122,19 +122,11 @@ fn some_statement(random: &mut Random, rows: u32, channels: u32) -> Statement {
                 upto: from.saturating_add(random.of_naturals(&[0, 1, 2, 61, 62, 63])),
             }
         }
-        7 | 8 | 9 => {
+        _ => {
             let from = distance(random);
             Statement::Reach {
                 through: one,
                 goal: two,
-                from,
-                upto: upper(random, from),
-            }
-        }
-        _ => {
-            let from = distance(random);
-            Statement::Escape {
-                along: one,
                 from,
                 upto: upper(random, from),
             }
@@ -175,8 +167,9 @@ fn odd_row(random: &mut Random, rows: u32, channels: u32) -> Row {
             from: random.of_naturals(&[3, 128]),
             upto: if random.one_in(2) { None } else { Some(2) },
         }),
-        _ => Row::Known(Statement::Escape {
-            along: 0,
+        _ => Row::Known(Statement::Reach {
+            through: 0,
+            goal: 0,
             from: random.of_naturals(&[3, 127, 128]),
             upto: Some(random.of_naturals(&[2, 127, 128])),
         }),
@@ -424,8 +417,9 @@ fn many_pipes(heap: Global, random: &mut Random) -> Result<Vec<Line>, AllocError
     for _ in 0..2u32 {
         lines.push(Line::WriteRow(Row::Known(some_statement(random, 1, 1))))?;
     }
-    lines.push(Line::WriteRow(Row::Known(Statement::Escape {
-        along: 0,
+    lines.push(Line::WriteRow(Row::Known(Statement::Reach {
+        through: 0,
+        goal: 0,
         from: random.below(4),
         upto: None,
     })))?;

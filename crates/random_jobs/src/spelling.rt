@@ -57,9 +57,11 @@ const NO_LETTER: [&str; 8] = [
     "x 10 1 1 1 1 1 1 1 1 1 1 1 1 1 1 1 1 1 1 1 1 1 1 1 1 1 1 1 1 1 1 1 1 1 1 1 1 1 1 1",
 ];
 
-// Rows of codes that are not 1 to 9.
-const UNKNOWN: [&str; 6] = [
+// Rows of codes that name no statement.
+const UNKNOWN: [&str; 8] = [
     "R 0",
+    "R 8",
+    "R 8 0 1 2",
     "R 10",
     "R 11 -5 7",
     "R 9999999 1 2 3 4 5 6",
@@ -101,10 +103,6 @@ fn statement_text(heap: Global, statement: Statement) -> Result<String, AllocErr
         } => {
             let end = upper(heap, upto)?;
             format!(in heap; "R 7 {through} {goal} {from} {end}")
-        }
-        Statement::Escape { along, from, upto } => {
-            let end = upper(heap, upto)?;
-            format!(in heap; "R 8 {along} {from} {end}")
         }
         Statement::Yes => String::from_str(heap, "R 9"),
     }

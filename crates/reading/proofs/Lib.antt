@@ -1,3 +1,0 @@
--- What every range has.
-pub mod Limits
-pub mod Widest

@@ -1,5 +1,5 @@
 -- A call's checks, in the order in which they are made, and what the call then answers and leaves.
-use Rattle.std.specs.Prelude.{Bool, true, false, cond, List, [], ◌∷◌, Some, None, Ok, Err, Option, Result}
+use Rattle.std.specs.Prelude.{Bool, cond, List, [], ◌∷◌, Some, None, Ok, Err, Option, Result}
 use Rattle.refusal.specs.declared.Refusal.{Refusal}
 
 -- a test that refuses where it is true, and the refusal
@@ -15,11 +15,6 @@ first (c ∷ cs) = cond c.0 (Some c.1) (first cs)
 abbrev pub answer : Option Refusal → Result (Unit {0}) Refusal
 answer None = Ok tt
 answer (Some e) = Err e
-
--- what a call answers that has something to hand over
-abbrev pub handed : {A : Type 0} → Option Refusal → A → Result A Refusal
-handed None a = Ok a
-handed (Some e) a = Err e
 
 -- what a call leaves: the old where it is refused, else the new
 abbrev pub leaves : {A : Type 0} → Option Refusal → A → A → A

@@ -1,7 +1,7 @@
 -- The number of each refusal.
 use Rattle.std.specs.Prelude.{ℕ}
 use Rattle.refusal.specs.declared.Refusal.{Refusal}
-use Rattle.refusal.specs.declared.Refusal.TheVariants.{OutsideLimits, NoSuchPlace, NoSuchStep, TooLarge, PipesFull, NoSuchCode, NoSuchRow, NoSuchChannel, NoInterval, RowsFull, OtherCells, NoSuchCell, NoRange, HoldStands, NotInside, StoreFull, HoldsFull, NotHeld, NoRow, ShortBoard, ShortWork, NotExact, NoLetter, Misspelt, OutOfPlace}
+use Rattle.refusal.specs.declared.Refusal.TheVariants.{OutsideLimits, NoSuchPlace, NoSuchStep, TooLarge, PipesFull, NoSuchCode, NoSuchRow, NoSuchChannel, NoInterval, RowsFull, OtherCells, NoSuchCell, NoRange, NotInside, StoreFull, NoRow, ShortBoard, ShortWork, NotExact, NoLetter, Misspelt, OutOfPlace}
 
 abbrev pub number : Refusal → ℕ
 number OutsideLimits = 1
@@ -17,11 +17,8 @@ number RowsFull = 10
 number OtherCells = 11
 number NoSuchCell = 12
 number NoRange = 13
-number HoldStands = 14
 number NotInside = 15
 number StoreFull = 16
-number HoldsFull = 17
-number NotHeld = 18
 number NoRow = 19
 number ShortBoard = 20
 number ShortWork = 21

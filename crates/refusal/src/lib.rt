@@ -17,7 +17,7 @@ pub enum Refusal {
     TooLarge,
     // 255 pipes are laid
     PipesFull,
-    // a row's code is not 1 to 9
+    // a row's code is none that is known
     NoSuchCode,
     // a row refers to a row that is not written yet
     NoSuchRow,
@@ -33,16 +33,10 @@ pub enum Refusal {
     NoSuchCell,
     // an entry's low end is above its high end, or an end is beyond the limits
     NoRange,
-    // an entry comes while a hold stands
-    HoldStands,
     // an entry does not lie inside the range held
     NotInside,
     // the store has no room for one more cell that is not widest
     StoreFull,
-    // eight holds stand
-    HoldsFull,
-    // a hold that is given back has another survey's number, or none stands
-    NotHeld,
     // the plan has no row
     NoRow,
     // the board is too short
@@ -78,11 +72,8 @@ impl Refusal {
             Refusal::OtherCells => 11,
             Refusal::NoSuchCell => 12,
             Refusal::NoRange => 13,
-            Refusal::HoldStands => 14,
             Refusal::NotInside => 15,
             Refusal::StoreFull => 16,
-            Refusal::HoldsFull => 17,
-            Refusal::NotHeld => 18,
             Refusal::NoRow => 19,
             Refusal::ShortBoard => 20,
             Refusal::ShortWork => 21,

@@ -4,10 +4,12 @@ use Rattle.refusal.specs.declared.Refusal.{Refusal}
 use Rattle.refusal.specs.Numbers.{number}
 use Rattle.verdict.specs.Algebra.{Ops}
 use Rattle.network.specs.Measures.{Extend}
+use Rattle.store.specs.Stored.{at}
 use Rattle.plan.specs.Plans.{Plan}
 use Rattle.monitor.specs.Meaning.{Sheet}
+use Rattle.monitor.specs.Verdicts.{verdict}
+use Rattle.monitor.specs.Boards.{sheet_refusal}
 use Rattle.survey.specs.Surveys.{Surveyed}
-use Rattle.survey.specs.Machine.{Call.sheet, refusal, drawn}
 
 -- a refused line: its number, and the refusal's
 abbrev pub refusal_text : ℕ → Refusal → List ℕ
@@ -41,4 +43,5 @@ unless_refused line (Some e) text = refusal_text line e
 -- a job draws a sheet on a board of 2,048 verdicts, with 4,096 for work
 abbrev pub sheet_report : {V : Type 0} → Ops V → Extend → (V → List ℕ) → Surveyed → ℕ → List ℕ
 sheet_report o x text s line =
-    unless_refused line (refusal s (sheet o.ranged 2048 4096)) (sheet_text text s.plan (drawn o x s) line)
+    unless_refused line (sheet_refusal s.plan (at s.store.ranges) o.ranged 2048 4096)
+    (sheet_text text s.plan (verdict o x s.plan (at s.store.ranges)) line)

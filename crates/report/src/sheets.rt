@@ -1,5 +1,5 @@
 // Writing a refusal's line, and a sheet's block of lines.
-ghost use Rattle.std.specs.Prelude.{◌≡◌, ◌+◌, ◌<◌, ◌≤◌, ◌++◌, length, vec_len, string_bytes, OnOk};
+ghost use Rattle.std.specs.Prelude.{◌≡◌, ◌+◌, ◌<◌, ◌≤◌, ◌++◌, length, IfOk, vec_len, string_bytes, OnOk};
 ghost use Rattle.plan.specs.Plans.{index};
 ghost use Rattle.plan.specs.Drafts.{plan_of};
 ghost use Rattle.monitor.specs.Boards.{shown, area};
@@ -12,7 +12,7 @@ use refusal::Refusal;
 use std::alloc::{AllocError, Global};
 use store::Store;
 use survey::Survey;
-use verdict::{Kind, Printed, bottoms};
+use verdict::{Kind, Printed};
 
 // The board and the work that a sheet is drawn with.
 const BOARD: usize = 2_048;
@@ -107,6 +107,17 @@ fn write_sheet<K: Printed>(
     let last = plan.rows().len() - 1;
     write_places(heap, plan, board, last as u32, out)?;
     Ok(())
+}
+
+// So many verdicts, all bottom.
+fn bottoms<K: Kind>(heap: Global, count: usize) -> Result<Vec<K>, AllocError>
+    ensures { IfOk result (λ v. vec_len v ≡ count) }
+{
+    let mut verdicts = Vec::with_capacity(heap, count)?;
+    for _i in 0..count {
+        verdicts.push_reserved(K::bottom());
+    }
+    Ok(verdicts)
 }
 
 // Draws a sheet on the board and adds its block, or adds the line of its refusal.

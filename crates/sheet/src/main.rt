@@ -4,7 +4,6 @@
 use job::run_job;
 use std::io;
 use std::io::{Read, Write};
-use store::Table;
 
 // One byte more than a job may have: a longer job is refused, and need not be read to its end.
 const MOST_READ: u64 = 8_193;
@@ -12,6 +11,6 @@ const MOST_READ: u64 = 8_193;
 fn main(rt: HostRuntime) -> io::Result<()> {
     let mut job = Vec::new(rt.alloc());
     rt.stdin().take(MOST_READ).read_to_end(&mut job)?;
-    let text = run_job::<Table>(rt.alloc(), job.as_slice())?;
+    let text = run_job(rt.alloc(), job.as_slice())?;
     rt.stdout().write_all(text.as_bytes())
 }

@@ -1,5 +1,5 @@
 -- The levels as they begin.
-use Rattle.std.proofs.Common.{◌≡◌, ℕ, zero, suc, ◌+◌, ◌*◌, List, [], ◌∷◌, ◌++◌, length, get_or, replicate, sym, refl, ap, ◌∙◌, length-append}
+use Rattle.std.proofs.Common.{◌≡◌, ℕ, zero, suc, ◌+◌, ◌*◌, List, [], ◌∷◌, ◌++◌, length, get_or, replicate, refl, ap, ◌∙◌, length-append}
 use lib.ListN.{length-replicate}
 use Rattle.verdict.specs.Algebra.{Ops}
 use Rattle.space.specs.Levels.{begun}

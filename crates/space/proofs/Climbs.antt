@@ -1,5 +1,5 @@
 -- Working through the levels gathers the routes: level k at p is made of the routes from p whose capped distance is k, and is at or above each of them.
-use Rattle.std.proofs.Common.{◌≡◌, ℕ, zero, suc, ◌+◌, ◌-◌, ◌*◌, ◌/◌, ◌%◌, ◌<◌, ◌≤◌, min, Bool, true, false, cond, ◌&&◌, T, leb, ◌⊎◌, List, [], ◌∷◌, ◌++◌, length, get_or, set, fold, sym, refl, ap, ◌∙◌, subst, inl, inr, ⊎_elim, arith, le→leb, leb→le, length-set, get_or-set_other, get_or-set_same}
+use Rattle.std.proofs.Common.{◌≡◌, ℕ, zero, suc, ◌+◌, ◌*◌, ◌/◌, ◌%◌, ◌<◌, ◌≤◌, min, Bool, true, false, cond, ◌&&◌, T, leb, List, [], ◌∷◌, length, set, fold, sym, refl, ap, ◌∙◌, subst, arith, le→leb, leb→le, length-set, get_or-set_other, get_or-set_same}
 use mathlib.Core.List.Memᴰ
 use mathlib.Core.List.{Memᴰ}
 use native.Mathlib.Decide.{ℕ_discrete, dec_le}
@@ -15,8 +15,23 @@ use Rattle.space.proofs.Made.{Made, Made.one, Made.none, Made.both, Gathers}
 use Rattle.verdict.proofs.Order.{below_refl, below_trans, join_left, join_right, meet_mono, meet_below_right}
 use Rattle.space.proofs.Made.{made_meet}
 use Rattle.space.proofs.Rooms.{inside}
-use Rattle.network.proofs.Standing.{stands_yes, stands_so}
-use Rattle.network.proofs.Cuts.{Cuttable, Reaches, reaches_none, reaches_more, reaches_all, joined_mem}
+use Rattle.space.proofs.Cuts.{Cuttable, Reaches, reaches_none, reaches_more, reaches_all, joined_mem}
+
+-- the test and the fact
+pub stands_yes : (t : ℕ) (e : Pipe) → stands t e ≡ true → Stands t e
+stands_yes t e h = go (leb e.first t) (leb t e.last) refl refl h
+  where
+    go : (a b : Bool) → leb e.first t ≡ a → leb t e.last ≡ b → (a && b) ≡ true → Stands t e
+    go true true ea eb h = record { opened = leb→le _ _ (rw ea tt); closes = leb→le _ _ (rw eb tt) }
+    go true false ea eb h = absurd (let z : ◌≡◌ {A = ℕ} 0 1 = cc in omega arith)
+    go false b ea eb h = absurd (let z : ◌≡◌ {A = ℕ} 0 1 = cc in omega arith)
+
+T_true : (b : Bool) → T b → b ≡ true
+T_true true h = refl
+T_true false h = absurd h
+
+pub stands_so : (t : ℕ) (e : Pipe) → Stands t e → stands t e ≡ true
+stands_so t e h = rw (T_true _ (le→leb _ _ h.opened), T_true _ (le→leb _ _ h.closes))
 
 module _ {x : Extend} (ms : Measures x) (top : ℕ) (small : top ≤ 65535) where
   -- the level of a route

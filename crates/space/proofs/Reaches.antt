@@ -1,5 +1,5 @@
 -- Reach by levels is the least verdict at or above all routes in the interval.
-use Rattle.std.proofs.Common.{◌≡◌, ℕ, zero, suc, ◌+◌, ◌-◌, ◌*◌, ◌<◌, ◌≤◌, min, List, [], ◌∷◌, ◌++◌, length, Some, None, Option, sym, refl, ap, ◌∙◌, subst, suc-mul, zero-add, zero-mul, arith}
+use Rattle.std.proofs.Common.{◌≡◌, ℕ, zero, suc, ◌+◌, ◌-◌, ◌*◌, ◌<◌, ◌≤◌, min, List, length, Some, None, Option, sym, refl, ◌∙◌, subst, suc-mul, zero-add, zero-mul, arith}
 use native.Mathlib.Decide.{dec_lt}
 use lib.ListN.{get_or-eq_default}
 use Rattle.network.specs.declared.pipe.Pipe.{Pipe}
@@ -10,12 +10,12 @@ use Rattle.space.specs.Along.{along}
 use Rattle.network.specs.Measures.{Extend, Measures}
 use Rattle.network.specs.Routes.{Reaching, distance, UpTo}
 use Rattle.space.specs.Levels.{val, at, cap, tall, begun, climbed, joined, reached}
-use Rattle.space.specs.Reach.{Reached, Reaches}
+use Rattle.space.specs.Reach.{Reaches}
 use Rattle.verdict.proofs.Order.{below_trans, join_left, join_right}
 use Rattle.space.proofs.Made.{made_of, gathers_least}
 use Rattle.space.proofs.Begun.{begun_at, begun_length}
 use Rattle.space.proofs.Rooms.{one_more}
-use Rattle.space.proofs.Climbs.{level, OnLevel, Starts, gathers}
+use Rattle.space.proofs.Climbs.{OnLevel, Starts, gathers}
 
 -- a distance in the interval has a level from low on that is worked through, and such a level has only distances in the interval
 low_level : (low d : ℕ) (high : Option ℕ) → low ≤ d → UpTo high d → low ≤ min d (cap low high)

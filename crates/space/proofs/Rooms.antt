@@ -1,5 +1,5 @@
 -- Room for the levels.
-use Rattle.std.proofs.Common.{◌≡◌, ℕ, suc, ◌+◌, ◌*◌, ◌<◌, ◌≤◌, Some, None, Option, mul-le-mul_right, suc-mul, add-one, arith}
+use Rattle.std.proofs.Common.{◌≡◌, ℕ, ◌+◌, ◌*◌, ◌<◌, ◌≤◌, Some, None, Option, mul-le-mul_right, suc-mul, add-one, arith}
 use lib.Arith.{digits_lt}
 use Rattle.space.specs.Levels.{cap, tall}
 

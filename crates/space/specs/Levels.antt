@@ -1,5 +1,5 @@
 -- Reach by levels. A level holds a verdict for each place; the levels lie in one list, one after the other.
-use Rattle.std.specs.Prelude.{ℕ, zero, suc, ◌+◌, ◌-◌, ◌*◌, min, cond, List, [], ◌∷◌, ◌++◌, length, replicate, Some, None, fold, Option, slice_index_or, slice_set}
+use Rattle.std.specs.Prelude.{ℕ, zero, suc, ◌+◌, ◌-◌, ◌*◌, min, cond, List, ◌++◌, length, replicate, Some, None, fold, Option, slice_index_or, slice_set}
 use Rattle.network.specs.declared.pipe.Pipe.{Pipe}
 use Rattle.verdict.specs.Algebra.{Ops}
 use Rattle.network.specs.Measures.{Extend}

@@ -10,7 +10,7 @@ use Rattle.network.specs.Routes.{Reaching}
 use Rattle.space.specs.Levels.{val, cap, reached}
 
 module _ {V : Type 0} (o : Ops V) (x : Extend) where
-  -- v is the least verdict at or above, for each route from p whose distance lies in the interval, the meet of the goal at its last place with `through` at every earlier one
+  -- v is the least verdict at or above, for each route from p in the interval, the meet of the goal at its last place with `through` at every earlier one
   abbrev pub Reached : (t : ℕ) (pipes : List Pipe) (through goal : List V) (low : ℕ) (high : Option ℕ) (p : ℕ) → V → Type 0
   Reached t pipes through goal low high p v = Least o (Reaching x t pipes low high p) (λ u. along o (val o through) (val o goal) p u.over) v
 

@@ -1,10 +1,17 @@
 // Levels of distance: one row of verdicts, a verdict for each place, for each level.
 ghost use Rattle.std.specs.Prelude.{◌≡◌, ℕ, suc, ◌+◌, ◌-◌, ◌*◌, ◌<◌, ◌≤◌, length};
-ghost use Rattle.network.specs.Routes.{Ends, Joined};
+ghost use Rattle.network.specs.Routes.{Ends, Joined, stands};
 ghost use Rattle.space.specs.Levels.{val, at, begun, lifted, pushed, passed, passes, climbed, joined};
 
-use network::{Measure, Pipe, stands_at};
+use network::{Measure, Pipe};
 use verdict::Kind;
+
+// Whether the pipe stands at the step.
+fn standing(pipe: &Pipe, step: u32) -> bool
+    ensures { result ≡ stands step pipe.now }
+{
+    pipe.first <= step && step <= pipe.last
+}
 
 // The verdict on a level at a place.
 fn read<K: Kind>(levels: &[K], places: usize, level: usize, place: usize) -> K
@@ -41,7 +48,7 @@ fn push<K: Kind, M: Measure>(
     requires level { level ≤ top }
     ensures { levels.new ≡ pushed K.Kind.ops through.now M.Measure.extend step top level levels.old pipe.now }
 {
-    if stands_at(pipe, step) {
+    if standing(pipe, step) {
         let high = M::extended(level, pipe).min(top);
         lift(levels, through, pipe, level as usize, high as usize);
     }

@@ -1,9 +1,7 @@
-// Rows over space: reach and escape at one step, by levels of distance in lent work.
+// Rows over space: reach at one step, by levels of distance in lent work.
 #![tactic(auto)]
 
-mod escape;
 mod levels;
 mod reach;
 
-pub use escape::escape_row;
-pub use reach::reach_row;
+pub use reach::{fill_levels, level_verdict};

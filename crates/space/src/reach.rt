@@ -1,7 +1,7 @@
 // Reach at one step.
 ghost use Rattle.std.specs.Prelude.{◌≡◌, ℕ, ◌+◌, ◌*◌, ◌<◌, ◌≤◌, length};
 ghost use Rattle.network.specs.Routes.{Joined};
-ghost use Rattle.space.specs.Levels.{val, cap, tall, gathered, reached};
+ghost use Rattle.space.specs.Levels.{cap, tall, gathered, reached};
 ghost use Rattle.space.specs.Reach.{Reached};
 
 use crate::levels::{fill, gather};
@@ -40,8 +40,10 @@ fn size_of(places: usize, top: u16, room: usize) -> usize
     (top as usize + 1) * places
 }
 
-// Fills the work with levels; at each place, the join of those in the interval is the verdict of reach.
-pub(crate) fn fill_levels<K: Kind, M: Measure>(
+// Fills the work with levels. At each place, the join of those in the interval is the least verdict at or above, for each
+// route from it whose distance lies in the interval, the meet of the goal at its last place with `through` at every
+// earlier one.
+pub fn fill_levels<K: Kind, M: Measure>(
     work: &mut [K],
     through: &[K],
     goal: &[K],
@@ -54,7 +56,8 @@ pub(crate) fn fill_levels<K: Kind, M: Measure>(
     requires goal { length goal.now ≡ length through.now }
     requires work { 129 * length through.now ≤ length work.old }
     requires near { cap from upto ≤ 128 }
-    ensures { (p : ℕ) → p < length through.now → gathered K.Kind.ops (length through.now) work.new from upto p ≡ reached K.Kind.ops M.Measure.extend step pipes.now through.now goal.now from upto p }
+    ensures value { (p : ℕ) → p < length through.now → gathered K.Kind.ops (length through.now) work.new from upto p ≡ reached K.Kind.ops M.Measure.extend step pipes.now through.now goal.now from upto p }
+    ensures least { (p : ℕ) → p < length through.now → Reached K.Kind.ops M.Measure.extend step pipes.now through.now goal.now from upto p (gathered K.Kind.ops (length through.now) work.new from upto p) }
 {
     let top = top_of(from, upto);
     let height = height_of(from, upto);
@@ -64,7 +67,7 @@ pub(crate) fn fill_levels<K: Kind, M: Measure>(
 }
 
 // The join of the levels in the interval, at a place.
-pub(crate) fn level_verdict<K: Kind>(
+pub fn level_verdict<K: Kind>(
     work: &[K],
     places: usize,
     from: u32,
@@ -78,31 +81,4 @@ pub(crate) fn level_verdict<K: Kind>(
     ensures { result ≡ gathered K.Kind.ops places work.now from upto place }
 {
     gather(work, places, from as u16, height_of(from, upto), place)
-}
-
-// The verdict of reach at each place: the least verdict at or above, for each route from the place whose distance lies in
-// the interval, the meet of the goal at its last place with `through` at every earlier one.
-pub fn reach_row<K: Kind, M: Measure>(
-    verdicts: &mut [K],
-    work: &mut [K],
-    through: &[K],
-    goal: &[K],
-    pipes: &[Pipe],
-    step: u32,
-    from: u32,
-    upto: Option<u32>,
-)
-    requires joined { Joined (length through.now) pipes.now }
-    requires goal { length goal.now ≡ length through.now }
-    requires verdicts { length verdicts.old ≡ length through.now }
-    requires work { 129 * length through.now ≤ length work.old }
-    requires near { cap from upto ≤ 128 }
-    requires interval { from ≤ 128 }
-    ensures value { (p : ℕ) → p < length through.now → val K.Kind.ops verdicts.new p ≡ reached K.Kind.ops M.Measure.extend step pipes.now through.now goal.now from upto p }
-    ensures least { (p : ℕ) → p < length through.now → Reached K.Kind.ops M.Measure.extend step pipes.now through.now goal.now from upto p (val K.Kind.ops verdicts.new p) }
-{
-    fill_levels::<K, M>(work, through, goal, pipes, step, from, upto);
-    for place in 0..through.len() {
-        verdicts[place] = level_verdict(work, through.len(), from, upto, place);
-    }
 }

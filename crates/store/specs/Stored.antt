@@ -1,5 +1,5 @@
 -- A store by its meaning: a capacity, and a range for each cell.
-use Rattle.std.specs.Prelude.{◌≡◌, ℕ, ◌+◌, Bool, cond, not, ◌&&◌, List, [], ◌∷◌, length, replicate, Option, Result, ◌==◌, nat_lt, slice_index_or, slice_set}
+use Rattle.std.specs.Prelude.{◌≡◌, ℕ, ◌+◌, Bool, cond, not, ◌&&◌, List, [], ◌∷◌, length, replicate, Option, Result, nat_le, nat_lt, slice_index_or, slice_set}
 use Rattle.reading.specs.Ends.{Ends, widest, inside, is_widest}
 use Rattle.refusal.specs.declared.Refusal.{Refusal}
 use Rattle.refusal.specs.declared.Refusal.TheVariants.{NoSuchCell, NotInside, StoreFull}
@@ -22,9 +22,9 @@ abbrev pub used : List Ends → ℕ
 used [] = 0
 used (r ∷ rs) = cond (is_widest r) 0 1 + used rs
 
--- the cell is widest, the range given is not, and the cells that are not widest equal the capacity
+-- the cell is widest, the range given is not, and no more cells may be other than widest
 abbrev pub is_full : Stored → ℕ → Ends → Bool
-is_full s k g = is_widest (at s.ranges k) && not (is_widest g) && used s.ranges == s.capacity
+is_full s k g = is_widest (at s.ranges k) && not (is_widest g) && nat_le s.capacity (used s.ranges)
 
 -- the checks of an entry of the range g at the cell k
 abbrev pub checks : Stored → ℕ → Ends → List Check

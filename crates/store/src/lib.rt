@@ -1,10 +1,8 @@
 // Stores: what is known of every cell, and how more becomes known.
 #![tactic(auto)]
 
-mod made;
 mod readings;
 mod table;
 
-pub use made::NewStore;
 pub use readings::{Readings, Store};
 pub use table::Table;

@@ -1,6 +1,6 @@
 // The traits of what tells ranges, and of what takes entries too.
-ghost use Rattle.std.specs.Prelude.{◌≡◌, ℕ, true, List, length};
-ghost use Rattle.reading.specs.Ends.{Ends, ends, is_range};
+ghost use Rattle.std.specs.Prelude.{◌≡◌, ℕ, List, length};
+ghost use Rattle.reading.specs.Ends.{Ends, ends};
 ghost use Rattle.store.specs.Stored.{at, stored, Entered};
 
 use reading::Range;
@@ -16,9 +16,6 @@ pub trait Readings {
     // The widest range beyond the cells.
     fn range(&self, cell: usize) -> Range
         ensures { ends result ≡ at (ranges self.now) cell };
-
-    // What is told of a cell is a range, within the limits of readings.
-    ghost limits: { (s : Self) (cell : ℕ) → is_range (at (ranges s) cell).low (at (ranges s) cell).high ≡ true };
 }
 
 // Takes entries, up to its capacity of cells that are not widest.

@@ -2,9 +2,7 @@
 ghost use Rattle.std.specs.Prelude.{◌≡◌, IfOk};
 ghost use Rattle.store.specs.Stored.{fresh};
 ghost use Rattle.store.specs.Tables.{table_of};
-ghost use Rattle.store.specs.TablesLemmas.{table_limits};
 
-use crate::made::NewStore;
 use crate::readings::{Readings, Store};
 use reading::Range;
 use refusal::Refusal;
@@ -30,8 +28,6 @@ impl Table {
 
 impl Readings for Table {
     ghost ranges = { λ t. (table_of t).ranges };
-
-    ghost limits = { λ s cell. table_limits s.ranges.items cell };
 
     fn cells(&self) -> usize {
         self.ranges.len()
@@ -61,11 +57,5 @@ impl Store for Table {
         }
         self.ranges[cell] = range;
         Ok(())
-    }
-}
-
-impl NewStore for Table {
-    fn with_room(heap: Global, cells: usize) -> Result<Table, AllocError> {
-        Table::new(heap, cells)
     }
 }

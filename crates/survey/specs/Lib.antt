@@ -1,4 +1,2 @@
--- What a survey holds, and the plain machine that it answers as.
+-- What a survey holds, and what it refuses.
 pub mod Surveys
-pub mod Machine
-pub mod Answers

@@ -40,13 +40,6 @@ module _ {V : Type 0} {o : Ops V} (ls : Laws o) where
   meet_mono {a} {b} {c} {d} h k =
       meet_below (meet_swap a b c d ∙ ap (λ w. o.meet w (o.meet c d)) (below_meet h) ∙ ap (o.meet a) (below_meet k))
 
-  pub join_mono : {a b c d : V} → Below o a b → Below o c d → Below o (o.join a c) (o.join b d)
-  join_mono {a} {b} {c} {d} h k = join_least (below_trans h (join_left b d)) (below_trans k (join_right b d))
-
-  -- not turns the order round
-  pub neg_anti : {a b : V} → Below o a b → Below o (o.neg b) (o.neg a)
-  neg_anti {a} {b} h = meet_below (ls.meet_comm (o.neg b) (o.neg a) ∙ sym (ls.neg-join a b) ∙ ap o.neg h)
-
   pub meet_below_right : (a b : V) → Below o (o.meet a b) b
   meet_below_right a b = ls.join_comm (o.meet a b) b ∙ ap (o.join b) (ls.meet_comm a b) ∙ ls.join_absorb b a
 

@@ -1,21 +1,12 @@
 -- The span of a kind: its operations end by end, and its laws from those of the kind.
-use Rattle.std.specs.Prelude.{◌≡◌, true}
+use Rattle.std.specs.Prelude.{true}
 use Rattle.std.proofs.Common.{ap₂}
 use Rattle.verdict.specs.declared.span.Span.{Span}
-use Rattle.verdict.specs.Algebra.{Ops, Laws, Below}
+use Rattle.verdict.specs.Algebra.{Ops, Laws}
 
 module _ {V : Type 0} where
   abbrev pub span : V → V → Span V
   span l h = record { low = l; high = h }
-
-  -- a verdict counts as a span of equal ends
-  abbrev pub alike : V → Span V
-  alike v = span v v
-
-  -- a span lies inside another: its low is at or above the other's low, its high at or below the other's high
-  pub record Inside (o : Ops V) (inner outer : Span V) : Type 0 where
-    pub low : Below o outer.low inner.low
-    pub high : Below o inner.high outer.high
 
   -- not swaps the ends; a range is judged by judging each end as an exact reading
   abbrev pub span_ops : Ops V → Ops (Span V)

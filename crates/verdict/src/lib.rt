@@ -5,14 +5,12 @@ mod kind;
 mod limit;
 mod margin;
 mod margins;
-mod memory;
 mod printed;
 mod span;
 mod yesno;
 
 pub use kind::Kind;
 pub use margin::Margin;
-pub use memory::bottoms;
 pub use printed::Printed;
 pub use span::Span;
 pub use yesno::YesNo;

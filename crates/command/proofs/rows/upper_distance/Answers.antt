@@ -1,5 +1,5 @@
 -- The proof of upper_distance.
-use Rattle.std.proofs.Common.{◌≡◌, ℕ, Some, Option, ap, ◌∙◌}
+use Rattle.std.proofs.Common.{ℕ, Some, Option, ap, ◌∙◌}
 use Rattle.command.specs.Commands.{given}
 use Rattle.command.proofs.Tokens.{number_upper}
 use Rattle.command.proofs.rows.upper_distance.Goals as goal

@@ -1,4 +1,4 @@
-use Rattle.std.proofs.Common.{string_bytes, sym, refl, ap, ◌∙◌}
+use Rattle.std.proofs.Common.{string_bytes, ap, ◌∙◌}
 use Rattle.job.specs.Jobs.{blank}
 use Rattle.job.specs.Reading.{opened_stage}
 use Rattle.job.proofs.Lines.{loop_turn}

@@ -1,4 +1,4 @@
-use Rattle.std.proofs.Common.{string_bytes, sym, refl, ap, ◌∙◌}
+use Rattle.std.proofs.Common.{string_bytes, refl, ◌∙◌}
 use Rattle.survey.specs.Surveys.{survey_of}
 use Rattle.job.specs.Jobs.{survey}
 use Rattle.job.proofs.Lines.{loop_turn}

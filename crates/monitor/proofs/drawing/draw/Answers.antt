@@ -1,10 +1,9 @@
-use Rattle.std.proofs.Common.{◌≡◌, length, Some, None, sym, refl, ap, ◌∙◌, subst, arith}
+use Rattle.std.proofs.Common.{ap}
 use Rattle.refusal.specs.Checks.{answer}
 use Rattle.store.specs.Stored.{at}
 use Rattle.network.proofs.Joining.{all_joined}
 use Rattle.plan.specs.Drafts.{plan_of}
 use Rattle.monitor.specs.Verdicts.{verdict}
-use Rattle.monitor.specs.Boards.{sheet_refusal, Leaves}
 use Rattle.monitor.proofs.OneSheet.{one_sheet}
 use Rattle.monitor.proofs.Filling.{leaves_none, leaves_some, room_for, work_for}
 use Rattle.monitor.proofs.drawing.draw.Goals as goal

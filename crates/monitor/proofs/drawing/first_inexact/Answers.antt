@@ -1,4 +1,4 @@
-use Rattle.std.proofs.Common.{◌≡◌, ℕ, ◌+◌, ◌-◌, ◌≤◌, Bool, true, false, cond, Some, None, Option, sym, ap, ◌∙◌, arith}
+use Rattle.std.proofs.Common.{◌≡◌, ◌+◌, ◌-◌, true, false, cond, Some, sym, ap, ◌∙◌, arith}
 use Rattle.reading.specs.Ends.{is_exact}
 use Rattle.store.specs.Stored.{at}
 use Rattle.monitor.specs.Boards.{inexact}

@@ -1,10 +1,5 @@
-use Rattle.std.proofs.Common.{◌≡◌, ℕ, ◌+◌, ◌<◌, ◌≤◌, true, ltb, length, ◌∙◌, arith}
-use Rattle.std.proofs.lemmas.List.{get_or_read}
-use Rattle.store.specs.Stored.{at}
-use Rattle.plan.specs.Plans.{Plan, index}
+use Rattle.std.proofs.Common.{length}
 use Rattle.plan.specs.Drafts.{plan_of}
-use Rattle.monitor.specs.Boards.{shown}
-use Rattle.monitor.proofs.Filling.{space_read}
 use Rattle.monitor.proofs.OneSheet.{left_of, right_of}
 use Rattle.monitor.proofs.Positions.{within, within_rows}
 use Rattle.monitor.proofs.drawing.verdict_at.Goals as goal
@@ -44,8 +39,3 @@ since_at-requires g c = record {
   hold = within_rows (plan_of c.args.draft.now) c.in-Since.hold c.args.row (length c.args.board.now) (left_of _ _ (rw c.in-Since.is at c.requires.refers)) c.requires.room;
   goal = within_rows (plan_of c.args.draft.now) c.in-Since.goal c.args.row (length c.args.board.now) (right_of _ _ (rw c.in-Since.is at c.requires.refers)) c.requires.room;
 }
-
-pub returns-in-Reach : goal.returns-in-Reach
-returns-in-Reach g c =
-    get_or_read c.args.over.now c.args.place c.index-over-place.result (omega (arith, c.requires.over, c.requires.place)) c.index-over-place.is g.K.Kind.ops.bottom
-    ∙ space_read g.K.Kind.ops g.M.Measure.extend (plan_of c.args.draft.now) (at (g.S.Readings.ranges c.args.readings.now)) (shown (plan_of c.args.draft.now) c.args.board.now g.K.Kind.ops.bottom) c.args.step c.args.over.now c.args.place c.requires.place c.args.statement c.in-Reach.is c.requires.space

@@ -1,8 +1,7 @@
-use Rattle.std.proofs.Common.{◌≡◌, ℕ, ◌+◌, ◌-◌, ◌*◌, ◌<◌, ◌≤◌, List, length, get_or, take, drop, sym, ap, ◌∙◌, arith, length-drop, length-take-le}
+use Rattle.std.proofs.Common.{ℕ, ◌+◌, ◌<◌, ◌≤◌, length, get_or, ap, ◌∙◌, arith}
 use Rattle.std.proofs.lemmas.List.FromFn.{fill_by_all}
 use Rattle.plan.specs.Plans.{Plan, index}
 use Rattle.plan.specs.Drafts.{plan_of}
-use Rattle.monitor.specs.Verdicts.{column}
 use Rattle.monitor.specs.Boards.{shown}
 use Rattle.monitor.proofs.Positions.{next_step, within_row}
 use Rattle.monitor.proofs.space_rows.row_at_step.Goals as goal

@@ -1,4 +1,4 @@
-use Rattle.std.proofs.Common.{◌≡◌, ◌+◌, ◌-◌, min, sym, refl, ap, ◌∙◌, arith}
+use Rattle.std.proofs.Common.{◌≡◌, ◌+◌, ◌-◌, min, refl, ap, ◌∙◌, arith}
 use Rattle.plan.specs.Drafts.{plan_of}
 use Rattle.monitor.specs.Verdicts.{windowed}
 use Rattle.monitor.specs.Boards.{shown}

@@ -1,4 +1,4 @@
-use Rattle.std.proofs.Common.{◌≡◌, ◌++◌, length, string_bytes, sym, refl, ap, ◌∙◌, arith}
+use Rattle.std.proofs.Common.{◌++◌, length, string_bytes, ap, ◌∙◌}
 use Rattle.store.specs.Stored.{at}
 use Rattle.plan.specs.Drafts.{plan_of}
 use Rattle.survey.specs.Surveys.{survey_of}

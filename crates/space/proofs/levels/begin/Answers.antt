@@ -1,4 +1,4 @@
-use Rattle.std.proofs.Common.{◌≡◌, ◌<◌, ◌≢◌, length, sym, ◌∙◌, arith, get_or-set_other, get_or-set_same, ext_get_or, below_more}
+use Rattle.std.proofs.Common.{◌<◌, ◌≢◌, length, sym, ◌∙◌, arith, get_or-set_other, get_or-set_same, ext_get_or, below_more}
 use Rattle.space.specs.Levels.{begun}
 use Rattle.space.proofs.Begun.{begun_at, begun_length}
 use Rattle.space.proofs.levels.begin.Goals as goal

@@ -1,12 +1,13 @@
-use Rattle.std.proofs.Common.{◌≡◌, ℕ, ◌+◌, ◌-◌, ◌*◌, ◌<◌, ◌≤◌, List, ◌++◌, length, take, drop, sym, refl, ap, ◌∙◌, subst, arith, length-take-le}
+use Rattle.std.proofs.Common.{◌≡◌, ℕ, ◌+◌, ◌-◌, ◌*◌, ◌<◌, ◌++◌, length, take, refl, ap, ◌∙◌, arith, length-take-le}
 use borrow.Rule.Slice.PartMut.{post_of}
-use Rattle.space.specs.Levels.{cap, tall, begun, climbed, gathered, reached, joined}
+use Rattle.space.specs.Levels.{cap, tall, begun, climbed, gathered, reached}
 use Rattle.space.proofs.Rooms.{inside, tall_cap}
 use Rattle.space.proofs.Turns.{reached_by, joined_front}
+use Rattle.space.proofs.Reaches.{reaches}
 use Rattle.space.proofs.reach.fill_levels.Goals as goal
 
 pub returns : goal.returns
-returns g c = value
+returns g c = record { value = value; least = λ p hp. rw (value p hp) (reaches g.K.Kind.laws g.M.Measure.laws c.args.step c.args.pipes.now c.args.through.now c.args.goal.now c.args.from c.args.upto c.requires.goal c.requires.joined (let h = c.requires.near in omega arith) p hp) }
   where
     places : ℕ
     places = length c.args.through.now

@@ -1,4 +1,4 @@
-use Rattle.std.proofs.Common.{◌+◌, arith}
+use Rattle.std.proofs.Common.{arith}
 use Rattle.space.proofs.Rooms.{narrower, tall_cap}
 use Rattle.space.proofs.reach.level_verdict.Goals as goal
 

@@ -1,5 +1,5 @@
 use Rattle.std.proofs.Common.{vec_items, sym}
-use Rattle.chain.specs.Telling.{length-ranges}
+use Rattle.chain.proofs.Telling.{length-ranges}
 use Rattle.chain.proofs.linked.ChainReadings.cells.Goals as goal
 
 pub returns : goal.returns

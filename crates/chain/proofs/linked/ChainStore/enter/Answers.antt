@@ -1,5 +1,5 @@
 use Rattle.std.proofs.Common.{sym, ap, arith}
-use Rattle.reading.proofs.Widest.{inside_narrow}
+use Rattle.chain.proofs.Widest.{inside_narrow}
 use Rattle.store.specs.Stored.{stored}
 use Rattle.chain.proofs.Keeping.{narrow, ranges_changed, kept_changed}
 use Rattle.chain.proofs.Steps.{missing, outside, narrowed, idle, filled, added}

@@ -2,7 +2,7 @@ use Rattle.std.proofs.Common.{map, vec_items, sym, ◌∙◌, arith}
 use lib.ListN.{length-map}
 use Rattle.std.proofs.lemmas.List.{get_or_past}
 use Rattle.reading.specs.Ends.{ends, widest}
-use Rattle.store.specs.TablesLemmas.{held}
+use Rattle.store.proofs.Tables.{held}
 use Rattle.store.proofs.table.TableReadings.range.Goals as goal
 
 pub returns-then-cell-len : goal.returns-then-cell-len

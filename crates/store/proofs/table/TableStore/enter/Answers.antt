@@ -1,6 +1,6 @@
 use Rattle.std.proofs.Common.{vec_items, sym, refl, arith}
 use Rattle.reading.specs.Ends.{ends}
-use Rattle.store.specs.TablesLemmas.{missing, outside, narrowed}
+use Rattle.store.proofs.Tables.{missing, outside, narrowed}
 use Rattle.store.proofs.table.TableStore.enter.Goals as goal
 
 pub returns-then-cell-len : goal.returns-then-cell-len

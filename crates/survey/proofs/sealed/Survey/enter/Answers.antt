@@ -1,21 +1,10 @@
-use Rattle.std.proofs.Common.{◌≡◌, Some, sym, ap, arith}
+use Rattle.std.proofs.Common.{◌≡◌, Some, sym}
 use Rattle.std.proofs.lemmas.Int.{to_z-of_z}
 use Rattle.reading.specs.Ends.{ends, made_of}
 use Rattle.store.specs.Stored.{stored}
 use Rattle.survey.specs.Surveys.{survey_of}
-use Rattle.refusal.specs.Checks.{answer, leaves}
-use Rattle.survey.specs.Machine.{Call.entry, accepted}
-use Rattle.survey.proofs.Entries.{answers, holds, under_hold}
+use Rattle.survey.proofs.Entries.{answers, holds}
 use Rattle.survey.proofs.sealed.Survey.enter.Goals as goal
-
-pub returns-then-self-gt0 : goal.returns-then-self-gt0
-returns-then-self-gt0 g c =
-    let low = c.ranges.low in
-    let high = c.ranges.high in
-    let s = survey_of g.S.Store.most g.S.Readings.ranges c.args.self.now in
-    let ranged : made_of c.args.low c.args.high ≡ Some (ends c.in-Some-new.range) = sym (simp to_z-of_z at c.in-Some-new.ensures) in
-    let is = under_hold s c.args.channel c.args.place c.args.step c.args.low c.args.high c.in-Some.cell (ends c.in-Some-new.range) (sym c.in-Some.ensures) ranged (omega arith) in
-    record { answers = ap answer is; after = ap (λ o. leaves o s (accepted s (entry c.args.channel c.args.place c.args.step c.args.low c.args.high))) is }
 
 pub returns : goal.returns
 returns g c =
@@ -25,6 +14,6 @@ returns g c =
     let high = c.ranges.high in
     let ranged : made_of c.args.low c.args.high ≡ Some (ends c.in-Some-new.range) = sym (simp to_z-of_z at c.in-Some-new.ensures) in
     record {
-      answers = answers s c.args.channel c.args.place c.args.step c.args.low c.args.high c.in-Some.cell (ends c.in-Some-new.range) c.enter.result after (sym c.in-Some.ensures) ranged (omega arith) c.enter.ensures;
-      after = holds s c.args.channel c.args.place c.args.step c.args.low c.args.high c.in-Some.cell (ends c.in-Some-new.range) c.enter.result after (sym c.in-Some.ensures) ranged (omega arith) c.enter.ensures;
+      answers = answers s c.args.channel c.args.place c.args.step c.args.low c.args.high c.in-Some.cell (ends c.in-Some-new.range) c.enter.result after (sym c.in-Some.ensures) ranged c.enter.ensures;
+      after = holds s c.args.channel c.args.place c.args.step c.args.low c.args.high c.in-Some.cell (ends c.in-Some-new.range) c.enter.result after (sym c.in-Some.ensures) ranged c.enter.ensures;
     }
