@@ -60,9 +60,9 @@ module _ {V : Type 0} {o : Ops V} (ls : Laws o) where
         found ls (f 1 0) (f 0 0) (f 2 0 0) (sheet.means 1 0 0 (omega arith) (omega arith) (omega arith)) (sheet.means 1 0 1 (omega arith) (omega arith) (omega arith)) (sheet.means 2 0 0 (omega arith) (omega arith) (omega arith))
 
   -- no step of the window is recorded
-  nothing_later : (x : Extend) (plan : Plan) (readings : ℕ → Ends) (f : Sheet V) → IsSheet o x plan readings f → (i r s t p : ℕ) → i < length plan.rows → row_at plan i ≡ Until r s 1 2 → t + 1 ≡ plan.steps → p < plan.places → f i t p ≡ o.bottom
+  nothing_later : (x : Extend) (plan : Plan) (readings : ℕ → Ends) (f : Sheet V) → IsSheet o x plan readings f → (i r s t p : ℕ) → i < length plan.rows → row_at plan i ≡ Until (record { hold = r; goal = s; from = 1; upto = 2 }) → t + 1 ≡ plan.steps → p < plan.places → f i t p ≡ o.bottom
   nothing_later x plan readings f sheet i r s t p hi row last hp =
-      let m : Means o x plan readings f (Until r s 1 2) t p (f i t p) = subst (λ q. Means o x plan readings f q t p (f i t p)) row (sheet.means i t p hi (omega arith) hp) in
+      let m : Means o x plan readings f (Until (record { hold = r; goal = s; from = 1; upto = 2 })) t p (f i t p) = subst (λ q. Means o x plan readings f q t p (f i t p)) row (sheet.means i t p hi (omega arith) hp) in
       below_antisym ls (m.least o.bottom (λ u. absurd (omega (arith, u.soon, u.recorded)))) (ls.least (f i t p))
 
   pub cases : Cases o

@@ -40,7 +40,7 @@ entered cell = slice_index_or (record { low = pos 10; high = pos 20 } ∷ widest
 
 -- row 0: a level of k or more; row 1: yes; row 2: reach of row 0 through row 1
 abbrev pub reach_rows : ℤ → ℕ → Option ℕ → List Statement
-reach_rows k a b = AtLeast 0 k ∷ YesRow ∷ Reach 1 0 a b ∷ []
+reach_rows k a b = AtLeast 0 k ∷ YesRow ∷ Reach 1 0 (record { from = a; upto = b }) ∷ []
 
 -- every sheet of the plan over the readings has this; that there is one is `OneSheet`
 abbrev pub Says : {V : Type 0} → Ops V → Extend → Plan → (ℕ → Ends) → (Sheet V → Type 0) → Type 0
@@ -67,7 +67,7 @@ pub record Cases {V : Type 0} (o : Ops V) : Type 0 where
   -- with the short cut, reach from 6 without an upper distance still finds place 2, by the long way
   pub still_found : (k : ℤ) (readings : ℕ → Ends) → Long o with_short_cut (reach_rows k 6 None) readings (λ f. f 2 0 0 ≡ f 0 0 2)
   -- until from 1 to 2 at the last step is bottom, whatever the plan, the measure and its rows
-  pub nothing_later : (x : Extend) (plan : Plan) (readings : ℕ → Ends) → Says o x plan readings (λ f. (i r s t p : ℕ) → i < length plan.rows → row_at plan i ≡ Until r s 1 2 → t + 1 ≡ plan.steps → p < plan.places → f i t p ≡ o.bottom)
+  pub nothing_later : (x : Extend) (plan : Plan) (readings : ℕ → Ends) → Says o x plan readings (λ f. (i r s t p : ℕ) → i < length plan.rows → row_at plan i ≡ Until (record { hold = r; goal = s; from = 1; upto = 2 }) → t + 1 ≡ plan.steps → p < plan.places → f i t p ≡ o.bottom)
   -- a reading of 50 at the limit 50 has margin 0, and 0 under not
   pub margin_zero : AtTheLimit margins (margin (pos 0)) (margin (pos 0))
   -- and it is a yes, and a no under not

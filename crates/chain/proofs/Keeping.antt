@@ -6,8 +6,8 @@ use Rattle.reading.specs.Ends.{ends, widest, is_widest}
 use Rattle.store.specs.Stored.{at}
 use Rattle.chain.specs.declared.record.Record.{Record}
 use Rattle.chain.specs.declared.chain.Chain.{Chain}
-use Rattle.chain.specs.Links.{link, needed, ahead, Within, Onward, Nearest, Apart}
-use Rattle.chain.specs.Records.{ranges_of, cells_of, links_of, Narrow, Tally, Of, Past, Gap}
+use Rattle.chain.specs.Links.{link, needed, ahead, Within, Onward}
+use Rattle.chain.specs.Records.{ranges_of, cells_of, links_of, Tally, Kept, Of, Past, Gap}
 use Rattle.chain.proofs.Telling.{Free, as_many, tally_none, tally_push, tally_set, told, below_all, narrow_all, apart_all, ranges_push, ranges_set}
 use Rattle.chain.proofs.Linking.{Linked, linked_more}
 
@@ -18,15 +18,6 @@ field_is f rs i r d lt is = get_or-map f rs i r d lt ∙ ap f (sym is)
 -- a write that leaves a field as it was
 field_kept : {B : Type 0} (f : Record → B) (rs : List Record) (i : ℕ) (x : Record) (d : B) → get_or (map f rs) i d ≡ f x → map f (set rs i x) ≡ map f rs
 field_kept f rs i x d e = map-set f rs i x ∙ ap (set (map f rs) i) (sym e) ∙ set-get_or (map f rs) i d
-
--- the ghost fields on links and records
-pub record Kept (n : ℕ) (rs : List Record) (head : Option ℕ) : Type 0 where
-  pub within : Within (cells_of rs) (links_of rs) head
-  pub onward : Onward n (cells_of rs) (links_of rs) head
-  pub nearest : Nearest n (cells_of rs) (links_of rs) head
-  pub apart : Apart (cells_of rs)
-  pub narrow : Narrow rs
-  pub tally : Tally n rs
 
 kept : (n : ℕ) (rs : List Record) (head : Option ℕ) (cs : List ℕ) (ns : List (Option ℕ)) → cells_of rs ≡ cs → links_of rs ≡ ns → Linked n cs ns head → Tally n rs → Kept n rs head
 kept n rs head cs ns p q l t =
@@ -60,15 +51,15 @@ module _ (s : Chain) where
   ns = links_of rs
 
   linked : Linked n cs ns s.head
-  linked = record { within = s.within; onward = s.onward; nearest = s.nearest }
+  linked = record { within = s.kept.within; onward = s.kept.onward; nearest = s.kept.nearest }
 
   -- record i, which was read as r, is of the cell k
   module _ (k i : ℕ) (of : Of rs k i) (r : Record) (is : r ≡ get_or rs i r) where
     pub held : at (ranges_of n rs) k ≡ ends r.range
-    held = ap (at (ranges_of n rs)) (sym of.1) ∙ (told n rs i r s.tally of.0).is ∙ ap (λ (x : Record). ends x.range) (sym is)
+    held = ap (at (ranges_of n rs)) (sym of.1) ∙ (told n rs i r s.kept.tally of.0).is ∙ ap (λ (x : Record). ends x.range) (sym is)
 
     pub narrow : is_widest (ends r.range) ≡ false
-    narrow = ap (λ (x : Record). is_widest (ends x.range)) is ∙ s.narrow i r of.0
+    narrow = ap (λ (x : Record). is_widest (ends x.range)) is ∙ s.kept.narrow i r of.0
 
     -- it is given another range
     module _ (g : Range) where
@@ -79,31 +70,28 @@ module _ (s : Chain) where
       cell = field_is (λ r. r.cell) rs i r 0 of.0 is
 
       pub ranges_changed : ranges_of n changed ≡ set (ranges_of n rs) k (ends g)
-      ranges_changed = ranges_set n rs i _ s.tally of.0 cell ∙ ap (λ j. set (ranges_of n rs) j (ends g)) (sym cell ∙ of.1)
+      ranges_changed = ranges_set n rs i _ s.kept.tally of.0 cell ∙ ap (λ j. set (ranges_of n rs) j (ends g)) (sym cell ∙ of.1)
 
       pub kept_changed : is_widest (ends g) ≡ false → Kept n changed s.head
       kept_changed w =
           kept n changed s.head cs ns (field_kept (λ r. r.cell) rs i _ 0 cell) (field_kept (λ r. r.next) rs i _ None (field_is (λ r. r.next) rs i r None of.0 is)) linked
-          (tally_set n rs i _ s.tally of.0 cell w)
+          (tally_set n rs i _ s.kept.tally of.0 cell w)
 
   -- a walk has come to the owner b, whose link is a, and leads to record i
   module _ (b a : Option ℕ) (stands : needed b ≤ length rs) (leads : a ≡ link ns s.head b) (i : ℕ) (to : a ≡ Some i) where
     pub met : i < length rs
-    met = omega (arith, s.within b (omega (arith, as_many rs)), ap needed (sym leads ∙ to), as_many rs)
+    met = omega (arith, s.kept.within b (omega (arith, as_many rs)), ap needed (sym leads ∙ to), as_many rs)
 
     module _ (r : Record) (is : r ≡ get_or rs i r) where
       pub met_cell : get_or cs i 0 ≡ r.cell
       met_cell = field_is (λ r. r.cell) rs i r 0 met is
-
-      pub met_of : (k : ℕ) → r.cell ≡ k → Of rs k i
-      met_of k e = (met, met_cell ∙ e)
 
       pub met_next : get_or ns i None ≡ r.next
       met_next = field_is (λ r. r.next) rs i r None met is
 
       pub falls : n - ahead n cs r.next < n - ahead n cs a
       falls =
-          omega (arith, s.onward (Some i) (omega (arith, met, as_many rs)), ap (ahead n cs) met_next, ap (ahead n cs) to, below_all n rs i s.tally met)
+          omega (arith, s.kept.onward (Some i) (omega (arith, met, as_many rs)), ap (ahead n cs) met_next, ap (ahead n cs) to, below_all n rs i s.kept.tally met)
 
   beyond : (k : ℕ) (to : Option ℕ) → Past rs k to → k < n → k < ahead n cs to
   beyond k None h lt = lt
@@ -112,8 +100,8 @@ module _ (s : Chain) where
   -- a cell in a gap has no record
   pub absent : (k : ℕ) (b a : Option ℕ) → Gap rs s.head k b a → Free rs k
   absent k b a g j lt e =
-      let below : k < n = omega (arith, below_all n rs j s.tally (omega (arith, as_many rs))) in
-      omega (arith, s.nearest b j (omega (arith, g.stands, as_many rs), lt, omega (arith, g.low)), beyond k a g.high below, ap (ahead n cs) g.leads)
+      let below : k < n = omega (arith, below_all n rs j s.kept.tally (omega (arith, as_many rs))) in
+      omega (arith, s.kept.nearest b j (omega (arith, g.stands, as_many rs), lt, omega (arith, g.low)), beyond k a g.high below, ap (ahead n cs) g.leads)
 
   -- a record x more, for the gap behind b
   module _
@@ -130,7 +118,7 @@ module _ (s : Chain) where
       links_more = ap links_of items ∙ map_push (λ (r : Record). r.next) rs x
 
       tally_more : Tally n more
-      tally_more = subst (Tally n) (sym items) (tally_push n rs x s.tally (absent x.cell b x.next g) lt w)
+      tally_more = subst (Tally n) (sym items) (tally_push n rs x s.kept.tally (absent x.cell b x.next g) lt w)
 
       pub ranges_more : ranges_of n more ≡ set (ranges_of n rs) x.cell (ends x.range)
       ranges_more = ap (ranges_of n) items ∙ ranges_push n rs x (absent x.cell b x.next g)
@@ -149,7 +137,7 @@ module _ (s : Chain) where
 
       joined : (ms : List (Option ℕ)) (top : Option ℕ) → link ms top b ≡ Some (length cs) → link ms top (Some (length cs)) ≡ x.next → ((from : Option ℕ) → needed from ≤ length cs → (from ≡ b → ⊥) → link ms top from ≡ link ns s.head from) → Linked n (cs ++ x.cell ∷ []) ms top
       joined ms top =
-          linked_more n cs ns s.head linked s.apart x.cell b x.next (omega (arith, g.stands, as_many rs)) g.leads g.low (beyond x.cell x.next g.high lt) ms top
+          linked_more n cs ns s.head linked s.kept.apart x.cell b x.next (omega (arith, g.stands, as_many rs)) g.leads g.low (beyond x.cell x.next g.high lt) ms top
 
       -- the head leads to it
       pub kept_first : b ≡ None → Kept n more (Some m)

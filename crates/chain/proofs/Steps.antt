@@ -59,8 +59,8 @@ module _ (s : Chain) (k : ℕ) where
         pub filled : is_widest (ends g) ≡ false → length (vec_items s.records) ≡ s.capacity → Comes (Err StoreFull) (chain_of s)
         filled e all =
             full (chain_of s) k (ends g) widest there none (inside_widest g)
-            (and_from _ _ (and_from _ _ (ap is_widest none) (ap not e)) (le-leb s.capacity (used told) (omega (arith, s.tally))))
+            (and_from _ _ (and_from _ _ (ap is_widest none) (ap not e)) (le-leb s.capacity (used told) (omega (arith, s.kept.tally))))
 
         pub added : length (vec_items s.records) < s.capacity → (t : Stored) → t ≡ accepted (chain_of s) k (ends g) → Comes (Ok tt) t
         added room t q =
-            entered (chain_of s) k (ends g) widest there none t (inside_widest g) (and_right _ _ (lt-leb s.capacity (used told) (omega (arith, s.tally)))) q
+            entered (chain_of s) k (ends g) widest there none t (inside_widest g) (and_right _ _ (lt-leb s.capacity (used told) (omega (arith, s.kept.tally)))) q

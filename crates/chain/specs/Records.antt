@@ -1,11 +1,10 @@
 -- The records of a chain: the ranges that they tell, and what they keep.
-use Rattle.std.specs.Prelude.{◌≡◌, ℕ, ◌<◌, ◌≤◌, false, List, [], ◌∷◌, map, length, replicate, Some, None, Option, slice_index, slice_index_or, slice_set}
+use Rattle.std.specs.Prelude.{◌≡◌, ℕ, ◌<◌, ◌≤◌, false, List, [], ◌∷◌, map, length, replicate, Some, None, Ok, Err, Option, Result, slice_index, slice_index_or, slice_set}
 use Rattle.reading.specs.Ends.{Ends, ends, widest, is_widest}
 use Rattle.store.specs.Stored.{used}
 use Rattle.chain.specs.declared.record.Record.{Record}
-use Rattle.chain.specs.declared.record.Place.{Place}
-use Rattle.chain.specs.declared.record.Place.TheVariants.{Held, Between}
-use Rattle.chain.specs.Links.{link, needed, floor}
+use Rattle.chain.specs.declared.record.Between.{Between}
+use Rattle.chain.specs.Links.{link, needed, floor, Within, Onward, Nearest, Apart}
 
 -- the ranges of n cells: the widest but for those with a record
 abbrev pub ranges_of : ℕ → List Record → List Ends
@@ -26,6 +25,16 @@ Narrow rs = (i : ℕ) (d : Record) → i < length rs → is_widest (ends (slice_
 abbrev pub Tally : ℕ → List Record → Type 0
 Tally n rs = used (ranges_of n rs) ≡ length rs
 
+-- what a chain of n cells keeps: links stay within the records in use, lead to larger cells until the chain ends, and skip no
+-- record; no cell stands twice, none with a record is widest, and every cell that is not widest has one
+pub record Kept (n : ℕ) (rs : List Record) (head : Option ℕ) : Type 0 where
+  pub within : Within (cells_of rs) (links_of rs) head
+  pub onward : Onward n (cells_of rs) (links_of rs) head
+  pub nearest : Nearest n (cells_of rs) (links_of rs) head
+  pub apart : Apart (cells_of rs)
+  pub narrow : Narrow rs
+  pub tally : Tally n rs
+
 -- record i is of the cell k
 abbrev pub Of : List Record → ℕ → ℕ → Type 0
 Of rs k i = (i < length rs) × (slice_index (cells_of rs) i ≡ k)
@@ -43,6 +52,6 @@ pub record Gap (rs : List Record) (head : Option ℕ) (k : ℕ) (before after : 
   pub high : Past rs k after
 
 -- what a walk along the links finds of the cell k
-abbrev pub Sought : List Record → Option ℕ → ℕ → Place → Type 0
-Sought rs head k (Held i) = Of rs k i
-Sought rs head k (Between before after) = Gap rs head k before after
+abbrev pub Sought : List Record → Option ℕ → ℕ → Result ℕ Between → Type 0
+Sought rs head k (Ok i) = Of rs k i
+Sought rs head k (Err b) = Gap rs head k b.before b.after

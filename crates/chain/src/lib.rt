@@ -2,7 +2,6 @@
 #![tactic(auto)]
 
 mod chain;
-mod linked;
 mod record;
 
 pub use chain::Chain;

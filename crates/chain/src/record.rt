@@ -1,4 +1,4 @@
-// The records of a chain, and where one stands.
+// The records of a chain, and the gaps between them.
 use reading::Range;
 
 // What is known of one cell, and the index of the record of the next larger cell.
@@ -9,14 +9,9 @@ pub(crate) struct Record {
     pub(crate) next: Option<usize>,
 }
 
-// The place of a cell: its record, or the two records between which one would stand.
+// The gap where a cell's record would stand: behind `before`, or first where it is none, and before `after`, or last.
 #[derive(Clone, Copy)]
-pub(crate) enum Place {
-    Held {
-        index: usize,
-    },
-    Between {
-        before: Option<usize>,
-        after: Option<usize>,
-    },
+pub(crate) struct Between {
+    pub(crate) before: Option<usize>,
+    pub(crate) after: Option<usize>,
 }

@@ -4,7 +4,8 @@
 
 use chain::Chain;
 use network::Hops;
-use plan::{Draft, Row, Statement};
+use plan::{Draft, Size, Statement};
+use reading::Entry;
 use refusal::Refusal;
 use std::alloc::{AllocError, Global};
 use std::io;
@@ -12,41 +13,42 @@ use store::{Store, Table};
 use survey::Survey;
 use verdict::{Kind, Margin, Printed, Span};
 
-// A call on a survey: an entry in channel 0 at step 0, or a sheet.
-#[derive(Clone, Copy)]
+// A call on a survey.
+#[derive(Clone, Copy, PartialEq, Eq, Debug)]
 enum Call {
-    Enter { place: u32, low: i32, high: i32 },
+    Enter(Entry),
     Sheet,
 }
 
 // Four places, one step, one channel: four cells. The one row is how far the level lies above 100.
 fn plan_of_four(heap: Global) -> Result<Draft, AllocError> {
-    let mut draft = Draft::open(heap, 4, 1, 1)?;
-    let _ = draft.add_row(Row::Known(Statement::AtLeast {
+    let size = Size {
+        places: 4,
+        steps: 1,
+        channels: 1,
+    };
+    let mut draft = Draft::open(heap, size)?;
+    let _ = draft.add_row(Some(Statement::AtLeast {
         channel: 0,
         limit: 100,
     }));
     Ok(draft)
 }
 
+// An entry in channel 0 at step 0.
 fn entry(place: u32, low: i32, high: i32) -> Call {
-    Call::Enter { place, low, high }
+    Call::Enter(Entry {
+        channel: 0,
+        place,
+        step: 0,
+        low,
+        high,
+    })
 }
 
 // A refusal's number, or 0 for an accepted call.
 fn number_of(answer: Result<(), Refusal>) -> u8 {
-    match answer {
-        Ok(()) => 0,
-        Err(reason) => reason.number(),
-    }
-}
-
-fn bottoms(heap: Global, count: usize) -> Result<Vec<Span<Margin>>, AllocError> {
-    let mut spans = Vec::new(heap);
-    for _ in 0..count {
-        spans.push(Span::<Margin>::bottom())?;
-    }
-    Ok(spans)
+    answer.err().map_or(0, u8::from)
 }
 
 // Draws a sheet, and writes its answer and its spans in brackets.
@@ -55,17 +57,16 @@ fn write_sheet<S: Store>(
     survey: &Survey<S>,
     text: &mut String,
 ) -> Result<(), AllocError> {
-    let mut board = bottoms(heap, 4)?;
-    let mut work = bottoms(heap, 1_024)?;
+    let mut board = vec![in heap; Span::<Margin>::bottom(); 4]?;
+    let mut work = vec![in heap; Span::<Margin>::bottom(); 1_024]?;
     let number = number_of(survey.sheet::<Span<Margin>, Hops>(
         board.as_mut_slice(),
         work.as_mut_slice(),
     ));
-    let more = format!(in heap; " {number}")?;
-    text.push_str(more.as_str())?;
+    write!(text, " {number}")?;
     for span in board.as_slice() {
         text.push_str(" [")?;
-        (*span).write(heap, text)?;
+        span.write(text)?;
         text.push_str("]")?;
     }
     Ok(())
@@ -73,7 +74,7 @@ fn write_sheet<S: Store>(
 
 // Makes the calls on a new survey over a store.
 fn answers<S: Store + Drop>(
-    rt: &HostRuntime,
+    rt: &(impl Print + AllocGlobal),
     title: &str,
     store: S,
     calls: &[Call],
@@ -83,10 +84,9 @@ fn answers<S: Store + Drop>(
     let mut text = String::new(rt.alloc());
     for call in calls {
         match *call {
-            Call::Enter { place, low, high } => {
-                let number = number_of(survey.enter(0, place, 0, low, high));
-                let more = format!(in rt.alloc(); " {number}")?;
-                text.push_str(more.as_str())?;
+            Call::Enter(entry) => {
+                let number = number_of(survey.enter(entry));
+                write!(text, " {number}")?;
             }
             Call::Sheet => write_sheet(rt.alloc(), &survey, &mut text)?,
         }
@@ -95,7 +95,7 @@ fn answers<S: Store + Drop>(
 }
 
 // The same calls on a table, on a chain with a record for each cell, and on one with two records.
-fn compare(rt: &HostRuntime, title: &str, calls: &[Call]) -> io::Result<()> {
+fn compare(rt: &(impl Print + AllocGlobal), title: &str, calls: &[Call]) -> io::Result<()> {
     println!(rt; "{title}")?;
     answers(rt, "  table  ", Table::new(rt.alloc(), 4)?, calls)?;
     answers(rt, "  chain 4", Chain::new(rt.alloc(), 4, 4)?, calls)?;

@@ -1,10 +1,12 @@
 -- What each line of a job asks for. A byte is a number.
-use Rattle.std.specs.Prelude.{ℕ, Bool, true, cond, ◌&&◌, ◌||◌, List, [], ◌∷◌, length, is_some, Some, None, Ok, Err, Option, Result, ◌==◌, nat_le, slice_index_or}
+use Rattle.std.specs.Prelude.{ℕ, Bool, cond, if◌then◌else◌, ◌||◌, List, [], ◌∷◌, length, is_some, Some, None, Ok, Err, Option, Result, option_and_then, ◌==◌, nat_le, slice_index_or}
+use Rattle.std.specs.List.{list_all}
+use Rattle.std.specs.Option.{option_map}
 use Rattle.refusal.specs.declared.Refusal.{Refusal}
 use Rattle.refusal.specs.declared.Refusal.TheVariants.{NoLetter, Misspelt, OutOfPlace}
+use Rattle.plan.specs.declared.statement.Statement.{Statement}
 use Rattle.plan.specs.declared.statement.Statement.TheVariants.{AtLeast, Not, And, Or, Until, Since, Reach, Yes}
-use Rattle.plan.specs.declared.statement.Row.{Row}
-use Rattle.plan.specs.declared.statement.Row.TheVariants.{Known, Unknown}
+use Rattle.plan.specs.declared.statement.Window.{Window}
 use Rattle.line.specs.Line.{Field, misspelt, natural, integer, fields, number, minus}
 use Rattle.command.specs.declared.part.Part.{Part}
 use Rattle.command.specs.declared.part.Part.TheVariants.{Blank, Drafting, Sealed}
@@ -15,10 +17,10 @@ use Rattle.command.specs.declared.sheet.MeasureName.TheVariants.{Hops, Lengths, 
 use Rattle.command.specs.declared.command.Command.{Command}
 use Rattle.command.specs.declared.command.Command.TheVariants.{Open, LayPipe, WriteRow, Seal, Enter, DrawSheet}
 
+infixl 10 ◌>>=◌
 -- what a value leads to, where there is one
-abbrev pub given : {A B : Type 0} → Option A → (A → Option B) → Option B
-given None then = None
-given (Some a) then = then a
+abbrev pub ◌>>=◌ : {A B : Type 0} → Option A → (A → Option B) → Option B
+o >>= f = option_and_then f o
 
 -- the field at an index from 0; past the last there is none that is well spelt
 abbrev pub at : List Field → ℕ → Field
@@ -27,136 +29,131 @@ at fs i = slice_index_or fs i misspelt
 -- The rows. A field is a natural number, but for those that may be negative.
 
 -- channel k, where k may be negative
-abbrev pub at_least_row : List Field → Option Row
+abbrev pub at_least_row : List Field → Option Statement
 at_least_row fs =
-    cond (length fs == 2)
-    (given (natural (at fs 0)) (λ channel.
-    given (integer (at fs 1)) (λ limit. Some (Known (AtLeast channel limit)))))
-    None
+    if length fs == 2 then (do
+      channel ← natural (at fs 0)
+      limit ← integer (at fs 1)
+      Some (AtLeast channel limit))
+    else None
 
 -- r
-abbrev pub not_row : List Field → Option Row
-not_row fs = cond (length fs == 1) (given (natural (at fs 0)) (λ r. Some (Known (Not r)))) None
+abbrev pub not_row : List Field → Option Statement
+not_row fs =
+    if length fs == 1 then (do
+      r ← natural (at fs 0)
+      Some (Not r))
+    else None
 
 -- r s
 abbrev pub row_pair : List Field → Option (ℕ × ℕ)
 row_pair fs =
-    cond (length fs == 2)
-    (given (natural (at fs 0)) (λ r.
-    given (natural (at fs 1)) (λ s. Some (r, s))))
-    None
-
-abbrev pub and_row : List Field → Option Row
-and_row fs = given (row_pair fs) (λ p. Some (Known (And p.0 p.1)))
-
-abbrev pub or_row : List Field → Option Row
-or_row fs = given (row_pair fs) (λ p. Some (Known (Or p.0 p.1)))
+    if length fs == 2 then (do
+      r ← natural (at fs 0)
+      s ← natural (at fs 1)
+      Some (r, s))
+    else None
 
 -- r s a b
-abbrev pub row_window : List Field → Option (ℕ × ℕ × ℕ × ℕ)
+abbrev pub row_window : List Field → Option Window
 row_window fs =
-    cond (length fs == 4)
-    (given (natural (at fs 0)) (λ r.
-    given (natural (at fs 1)) (λ s.
-    given (natural (at fs 2)) (λ a.
-    given (natural (at fs 3)) (λ b. Some (r, s, a, b))))))
-    None
-
-abbrev pub until_row : List Field → Option Row
-until_row fs = given (row_window fs) (λ w. Some (Known (Until w.0 w.1 w.2 w.3)))
-
-abbrev pub since_row : List Field → Option Row
-since_row fs = given (row_window fs) (λ w. Some (Known (Since w.0 w.1 w.2 w.3)))
+    if length fs == 4 then (do
+      r ← natural (at fs 0)
+      s ← natural (at fs 1)
+      a ← natural (at fs 2)
+      b ← natural (at fs 3)
+      Some (record { hold = r; goal = s; from = a; upto = b }))
+    else None
 
 -- an upper distance, which a lone minus leaves out
 abbrev pub upper : Field → Option (Option ℕ)
-upper (number z) = given (natural (number z)) (λ n. Some (Some n))
+upper (number z) = option_map Some (natural (number z))
 upper minus = Some None
 upper misspelt = None
 
 -- r s d1 d2
-abbrev pub reach_row : List Field → Option Row
+abbrev pub reach_row : List Field → Option Statement
 reach_row fs =
-    cond (length fs == 4)
-    (given (natural (at fs 0)) (λ r.
-    given (natural (at fs 1)) (λ s.
-    given (natural (at fs 2)) (λ a.
-    given (upper (at fs 3)) (λ b. Some (Known (Reach r s a b)))))))
-    None
+    if length fs == 4 then (do
+      r ← natural (at fs 0)
+      s ← natural (at fs 1)
+      a ← natural (at fs 2)
+      b ← upper (at fs 3)
+      Some (Reach r s (record { from = a; upto = b })))
+    else None
 
 -- no fields
-abbrev pub yes_row : List Field → Option Row
-yes_row fs = cond (length fs == 0) (Some (Known Yes)) None
+abbrev pub yes_row : List Field → Option Statement
+yes_row fs = if length fs == 0 then Some Yes else None
 
+-- whether each is a number, negative or not
 abbrev pub numbers : List Field → Bool
-numbers [] = true
-numbers (f ∷ fs) = is_some (integer f) && numbers fs
+numbers = list_all (λ f. is_some (integer f))
 
--- any count of numbers, which may be negative, and nothing else
-abbrev pub unknown_row : List Field → Option Row
-unknown_row fs = cond (numbers fs) (Some Unknown) None
-
--- the row of a code and of the fields after it
-abbrev pub coded : ℕ → List Field → Option Row
+-- the row of a code and of the fields after it: none where the code names no statement, and any numbers follow it
+abbrev pub coded : ℕ → List Field → Option (Option Statement)
 coded code fs =
-    cond (code == 1) (at_least_row fs)
-    (cond (code == 2) (not_row fs)
-    (cond (code == 3) (and_row fs)
-    (cond (code == 4) (or_row fs)
-    (cond (code == 5) (until_row fs)
-    (cond (code == 6) (since_row fs)
-    (cond (code == 7) (reach_row fs)
-    (cond (code == 9) (yes_row fs)
-    (unknown_row fs))))))))
+    cond (code == 1) (option_map Some (at_least_row fs))
+    (cond (code == 2) (option_map Some (not_row fs))
+    (cond (code == 3) (option_map (λ p. Some (And p.0 p.1)) (row_pair fs))
+    (cond (code == 4) (option_map (λ p. Some (Or p.0 p.1)) (row_pair fs))
+    (cond (code == 5) (option_map (λ w. Some (Until w)) (row_window fs))
+    (cond (code == 6) (option_map (λ w. Some (Since w)) (row_window fs))
+    (cond (code == 7) (option_map Some (reach_row fs))
+    (cond (code == 9) (option_map Some (yes_row fs))
+    (cond (numbers fs) (Some None) None))))))))
 
 -- the row of a code, which is not negative, and its fields
-abbrev pub written : List Field → Option Row
+abbrev pub written : List Field → Option (Option Statement)
 written [] = None
-written (f ∷ fs) = given (natural f) (λ code. coded code fs)
+written (f ∷ fs) = natural f >>= (λ code. coded code fs)
 
 -- The commands.
 
 -- O places steps channels
 abbrev pub opening : List Field → Option Command
 opening fs =
-    cond (length fs == 3)
-    (given (natural (at fs 0)) (λ places.
-    given (natural (at fs 1)) (λ steps.
-    given (natural (at fs 2)) (λ channels. Some (Open places steps channels)))))
-    None
+    if length fs == 3 then (do
+      places ← natural (at fs 0)
+      steps ← natural (at fs 1)
+      channels ← natural (at fs 2)
+      Some (Open (record { places = places; steps = steps; channels = channels })))
+    else None
 
 -- P from to length drop first last
 abbrev pub laying : List Field → Option Command
 laying fs =
-    cond (length fs == 6)
-    (given (natural (at fs 0)) (λ from.
-    given (natural (at fs 1)) (λ to.
-    given (natural (at fs 2)) (λ long.
-    given (natural (at fs 3)) (λ drop.
-    given (natural (at fs 4)) (λ first.
-    given (natural (at fs 5)) (λ last.
-    Some (LayPipe (record { from = from; to = to; length = long; drop = drop; first = first; last = last })))))))))
-    None
+    if length fs == 6 then (do
+      from ← natural (at fs 0)
+      to ← natural (at fs 1)
+      long ← natural (at fs 2)
+      drop ← natural (at fs 3)
+      first ← natural (at fs 4)
+      last ← natural (at fs 5)
+      Some (LayPipe (record { from = from; to = to; length = long; drop = drop; first = first; last = last })))
+    else None
 
 -- R code fields
 abbrev pub writing : List Field → Option Command
-writing fs = given (written fs) (λ row. Some (WriteRow row))
+writing fs = option_map (λ row. WriteRow row) (written fs)
 
 -- S
 abbrev pub sealing : List Field → Option Command
-sealing fs = cond (length fs == 0) (Some Seal) None
+sealing fs = if length fs == 0 then Some Seal else None
 
 -- E channel place step low high, where low and high may be negative
 abbrev pub entering : List Field → Option Command
 entering fs =
-    cond (length fs == 5)
-    (given (natural (at fs 0)) (λ channel.
-    given (natural (at fs 1)) (λ place.
-    given (natural (at fs 2)) (λ step.
-    given (integer (at fs 3)) (λ low.
-    given (integer (at fs 4)) (λ high. Some (Enter channel place step low high)))))))
-    None
+    if length fs == 5 then (do
+      channel ← natural (at fs 0)
+      place ← natural (at fs 1)
+      step ← natural (at fs 2)
+      low ← integer (at fs 3)
+      high ← integer (at fs 4)
+      Some (Enter (record { channel = channel; place = place; step = step; low = low; high = high })))
+    else None
 
+-- the measure of a number
 abbrev pub measured : ℕ → Option MeasureName
 measured n =
     cond (n == 1) (Some Hops)
@@ -164,13 +161,19 @@ measured n =
     (cond (n == 3) (Some Drops)
     None))
 
+-- what is there, or that it is misspelt
+abbrev pub or_misspelt : {A : Type 0} → Option A → Result A Refusal
+or_misspelt None = Err Misspelt
+or_misspelt (Some a) = Ok a
+
 -- a measure after the letter of a kind of sheet
 abbrev pub drawing : SheetKind → List Field → Option Command
 drawing kind fs =
-    cond (length fs == 1)
-    (given (natural (at fs 0)) (λ n.
-    given (measured n) (λ measure. Some (DrawSheet kind measure))))
-    None
+    if length fs == 1 then (do
+      n ← natural (at fs 0)
+      measure ← measured n
+      Some (DrawSheet kind measure))
+    else None
 
 -- the command of a letter, here by its code, and of the fields after it
 abbrev pub said : ℕ → List Field → Option Command
@@ -199,7 +202,7 @@ belongs Sealed b = b == 69 || b == 121 || b == 109 || b == 89 || b == 77
 
 -- at most 80 bytes: a letter and its fields
 abbrev pub spelt : ℕ → List ℕ → Option Command
-spelt b bs = cond (nat_le (length (b ∷ bs)) 80) (given (fields bs) (said b)) None
+spelt b bs = if nat_le (length (b ∷ bs)) 80 then fields bs >>= said b else None
 
 -- a command that is well spelt, where its letter belongs
 abbrev pub placed : Part → ℕ → Option Command → Result Command Refusal

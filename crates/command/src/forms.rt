@@ -1,13 +1,15 @@
 // The form of each command: how many fields follow its letter, and what each says.
 ghost use Rattle.std.specs.Prelude.{◌≡◌, map};
 ghost use Rattle.line.specs.Line.{token_field};
-ghost use Rattle.command.specs.Commands.{opening, laying, writing, sealing, entering, measured, drawing, said};
+ghost use Rattle.command.specs.Commands.{opening, laying, writing, sealing, entering, drawing, said};
 
 use crate::command::Command;
 use crate::rows::read_row;
 use crate::sheet::{MeasureName, SheetKind};
 use line::Token;
 use network::Pipe;
+use plan::Size;
+use reading::Entry;
 
 // `O places steps channels`
 fn read_open(tokens: &[Token]) -> Option<Command>
@@ -16,11 +18,11 @@ fn read_open(tokens: &[Token]) -> Option<Command>
     let [places, steps, channels] = tokens else {
         return None;
     };
-    Some(Command::Open {
+    Some(Command::Open(Size {
         places: places.natural()?,
         steps: steps.natural()?,
         channels: channels.natural()?,
-    })
+    }))
 }
 
 // `P from to length drop first last`
@@ -44,17 +46,14 @@ fn read_pipe(tokens: &[Token]) -> Option<Command>
 fn read_write(tokens: &[Token]) -> Option<Command>
     ensures { result ≡ writing (map token_field tokens.now) }
 {
-    Some(Command::WriteRow(read_row(tokens)?))
+    read_row(tokens).map(Command::WriteRow)
 }
 
 // `S`
 fn read_seal(tokens: &[Token]) -> Option<Command>
     ensures { result ≡ sealing (map token_field tokens.now) }
 {
-    if !tokens.is_empty() {
-        return None;
-    }
-    Some(Command::Seal)
+    tokens.is_empty().then_some(Command::Seal)
 }
 
 // `E channel place step low high`, where only the ends may be negative
@@ -64,24 +63,13 @@ fn read_entry(tokens: &[Token]) -> Option<Command>
     let [channel, place, step, low, high] = tokens else {
         return None;
     };
-    Some(Command::Enter {
+    Some(Command::Enter(Entry {
         channel: channel.natural()?,
         place: place.natural()?,
         step: step.natural()?,
         low: low.integer()?,
         high: high.integer()?,
-    })
-}
-
-fn measure_named(number: u32) -> Option<MeasureName>
-    ensures { result ≡ measured number }
-{
-    match number {
-        1 => Some(MeasureName::Hops),
-        2 => Some(MeasureName::Lengths),
-        3 => Some(MeasureName::Drops),
-        _ => None,
-    }
+    }))
 }
 
 // The measure after a sheet's letter.
@@ -93,7 +81,7 @@ fn read_sheet(kind: SheetKind, tokens: &[Token]) -> Option<Command>
     };
     Some(Command::DrawSheet {
         kind,
-        measure: measure_named(measure.natural()?)?,
+        measure: MeasureName::try_from(measure.natural()?).ok()?,
     })
 }
 

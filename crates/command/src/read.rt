@@ -41,16 +41,14 @@ fn read_spelt(heap: Global, letter: char, rest: &[u8]) -> Result<Option<Command>
     let Some(tokens) = read_tokens(heap, rest)? else {
         return Ok(None);
     };
-    Ok(read_form(letter, tokens.as_slice()))
+    Ok(read_form(letter, &tokens))
 }
 
 // The command, if it is one and stands in its part.
 fn check_place(part: Part, letter: char, read: Option<Command>) -> Result<Command, Refusal>
     ensures { result ≡ placed part letter read }
 {
-    let Some(command) = read else {
-        return Err(Refusal::Misspelt);
-    };
+    let command = read.ok_or(Refusal::Misspelt)?;
     if !belongs(part, letter) {
         return Err(Refusal::OutOfPlace);
     }

@@ -1,34 +1,35 @@
 // The rows that a line can write: a code, and the fields that go with it.
 ghost use Rattle.std.specs.Prelude.{◌≡◌, map};
 ghost use Rattle.line.specs.Line.{token_field};
-ghost use Rattle.command.specs.Commands.{at_least_row, not_row, row_pair, and_row, or_row, row_window, until_row, since_row, upper, reach_row, yes_row, numbers, unknown_row, coded, written};
+ghost use Rattle.command.specs.Commands.{at_least_row, not_row, row_pair, row_window, upper, reach_row, yes_row, numbers, coded, written};
 
 use line::Token;
-use plan::{Row, Statement};
+use network::Distances;
+use plan::{Row, Statement, Window};
 
 // `channel k`, where only the limit k may be negative
-fn at_least_row(fields: &[Token]) -> Option<Row>
+fn at_least_row(fields: &[Token]) -> Option<Statement>
     ensures { result ≡ at_least_row (map token_field fields.now) }
 {
     let [channel, limit] = fields else {
         return None;
     };
-    Some(Row::Known(Statement::AtLeast {
+    Some(Statement::AtLeast {
         channel: channel.natural()?,
         limit: limit.integer()?,
-    }))
+    })
 }
 
 // `r`
-fn not_row(fields: &[Token]) -> Option<Row>
+fn not_row(fields: &[Token]) -> Option<Statement>
     ensures { result ≡ not_row (map token_field fields.now) }
 {
     let [row] = fields else {
         return None;
     };
-    Some(Row::Known(Statement::Not {
+    Some(Statement::Not {
         row: row.natural()?,
-    }))
+    })
 }
 
 // `r s`
@@ -41,129 +42,78 @@ fn row_pair(fields: &[Token]) -> Option<(u32, u32)>
     Some((left.natural()?, right.natural()?))
 }
 
-fn and_row(fields: &[Token]) -> Option<Row>
-    ensures { result ≡ and_row (map token_field fields.now) }
-{
-    let (left, right) = row_pair(fields)?;
-    Some(Row::Known(Statement::And { left, right }))
-}
-
-fn or_row(fields: &[Token]) -> Option<Row>
-    ensures { result ≡ or_row (map token_field fields.now) }
-{
-    let (left, right) = row_pair(fields)?;
-    Some(Row::Known(Statement::Or { left, right }))
-}
-
 // `r s a b`
-fn row_window(fields: &[Token]) -> Option<(u32, u32, u32, u32)>
+fn row_window(fields: &[Token]) -> Option<Window>
     ensures { result ≡ row_window (map token_field fields.now) }
 {
     let [hold, goal, from, upto] = fields else {
         return None;
     };
-    Some((
-        hold.natural()?,
-        goal.natural()?,
-        from.natural()?,
-        upto.natural()?,
-    ))
-}
-
-fn until_row(fields: &[Token]) -> Option<Row>
-    ensures { result ≡ until_row (map token_field fields.now) }
-{
-    let (hold, goal, from, upto) = row_window(fields)?;
-    Some(Row::Known(Statement::Until {
-        hold,
-        goal,
-        from,
-        upto,
-    }))
-}
-
-fn since_row(fields: &[Token]) -> Option<Row>
-    ensures { result ≡ since_row (map token_field fields.now) }
-{
-    let (hold, goal, from, upto) = row_window(fields)?;
-    Some(Row::Known(Statement::Since {
-        hold,
-        goal,
-        from,
-        upto,
-    }))
+    Some(Window {
+        hold: hold.natural()?,
+        goal: goal.natural()?,
+        from: from.natural()?,
+        upto: upto.natural()?,
+    })
 }
 
 // An upper distance, which a lone minus leaves out.
 fn upper_distance(token: Token) -> Option<Option<u32>>
     ensures { result ≡ upper (token_field token.entry) }
 {
-    if let Token::Minus = token {
-        return Some(None);
+    match token {
+        Token::Minus => Some(None),
+        _ => token.natural().map(Some),
     }
-    Some(Some(token.natural()?))
 }
 
 // `r s d1 d2`
-fn reach_row(fields: &[Token]) -> Option<Row>
+fn reach_row(fields: &[Token]) -> Option<Statement>
     ensures { result ≡ reach_row (map token_field fields.now) }
 {
     let [through, goal, from, upto] = fields else {
         return None;
     };
-    Some(Row::Known(Statement::Reach {
+    Some(Statement::Reach {
         through: through.natural()?,
         goal: goal.natural()?,
-        from: from.natural()?,
-        upto: upper_distance(*upto)?,
-    }))
+        distances: Distances {
+            from: from.natural()?,
+            upto: upper_distance(*upto)?,
+        },
+    })
 }
 
-fn yes_row(fields: &[Token]) -> Option<Row>
+// no fields
+fn yes_row(fields: &[Token]) -> Option<Statement>
     ensures { result ≡ yes_row (map token_field fields.now) }
 {
-    if !fields.is_empty() {
-        return None;
-    }
-    Some(Row::Known(Statement::Yes))
+    fields.is_empty().then_some(Statement::Yes)
 }
 
 // Whether each field is a number, negative or not.
 fn all_numbers(fields: &[Token]) -> bool
     ensures { result ≡ numbers (map token_field fields.now) }
 {
-    for field in fields {
-        if field.integer().is_none() {
-            return false;
-        }
-    }
-    true
+    fields.iter().all(|field| field.integer().is_some())
 }
 
-// What follows a code that names no statement.
-fn unknown_row(fields: &[Token]) -> Option<Row>
-    ensures { result ≡ unknown_row (map token_field fields.now) }
-{
-    if !all_numbers(fields) {
-        return None;
-    }
-    Some(Row::Unknown)
-}
-
+// A code that names no statement takes any numbers.
 fn coded_row(code: u32, fields: &[Token]) -> Option<Row>
     ensures { result ≡ coded code (map token_field fields.now) }
 {
-    match code {
+    let statement = match code {
         1 => at_least_row(fields),
         2 => not_row(fields),
-        3 => and_row(fields),
-        4 => or_row(fields),
-        5 => until_row(fields),
-        6 => since_row(fields),
+        3 => row_pair(fields).map(|(left, right)| Statement::And { left, right }),
+        4 => row_pair(fields).map(|(left, right)| Statement::Or { left, right }),
+        5 => row_window(fields).map(Statement::Until),
+        6 => row_window(fields).map(Statement::Since),
         7 => reach_row(fields),
         9 => yes_row(fields),
-        _ => unknown_row(fields),
-    }
+        _ => return all_numbers(fields).then_some(None),
+    };
+    statement.map(Some)
 }
 
 // `code fields`

@@ -67,26 +67,24 @@ kind_report MarginSpan x = sheet_report (span_ops margins) x (span_text margin_t
 
 -- what a command does at each stage; one that does not belong there does not come, and would do nothing
 abbrev pub obeyed : ℕ → Stage → Command → Turn
-obeyed line blank (Open places steps channels) =
-    upon line (size_refusal places steps channels) blank (draft (opened places steps channels))
+obeyed line blank (Open size) = upon line (size_refusal size) blank (draft (opened size))
 obeyed line blank (LayPipe e) = turn blank []
 obeyed line blank (WriteRow r) = turn blank []
 obeyed line blank Seal = turn blank []
-obeyed line blank (Enter c p t low high) = turn blank []
+obeyed line blank (Enter e) = turn blank []
 obeyed line blank (DrawSheet kind m) = turn blank []
-obeyed line (draft plan) (Open places steps channels) = turn (draft plan) []
+obeyed line (draft plan) (Open size) = turn (draft plan) []
 obeyed line (draft plan) (LayPipe e) = upon line (pipe_refusal plan e) (draft plan) (draft (with_pipe plan e))
 obeyed line (draft plan) (WriteRow r) = upon line (row_refusal plan r) (draft plan) (draft (with_row plan r))
 obeyed line (draft plan) Seal =
     upon line (sealing_refusal plan (table_cells plan)) (draft plan) (survey (sealed plan))
-obeyed line (draft plan) (Enter c p t low high) = turn (draft plan) []
+obeyed line (draft plan) (Enter e) = turn (draft plan) []
 obeyed line (draft plan) (DrawSheet kind m) = turn (draft plan) []
-obeyed line (survey s) (Open places steps channels) = turn (survey s) []
+obeyed line (survey s) (Open size) = turn (survey s) []
 obeyed line (survey s) (LayPipe e) = turn (survey s) []
 obeyed line (survey s) (WriteRow r) = turn (survey s) []
 obeyed line (survey s) Seal = turn (survey s) []
-obeyed line (survey s) (Enter c p t low high) =
-    upon line (entry_refusal s c p t low high) (survey s) (survey (with_entry s c p t low high))
+obeyed line (survey s) (Enter e) = upon line (entry_refusal s e) (survey s) (survey (with_entry s e))
 obeyed line (survey s) (DrawSheet kind m) = turn (survey s) (kind_report kind (measure m) s line)
 
 -- a line that asks for nothing is refused

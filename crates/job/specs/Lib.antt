@@ -1,3 +1,4 @@
 -- What a job prints.
 pub mod Jobs
 pub mod Reading
+pub mod Way

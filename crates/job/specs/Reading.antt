@@ -1,5 +1,5 @@
 -- What a reader of lines tells, and what a turn of a loop does.
-use Rattle.std.specs.Prelude.{◌≡◌, ℕ, ◌+◌, ◌<◌, List, [], ◌∷◌, ◌++◌, length, Some, None, Ok, Err, Option, Result}
+use Rattle.std.specs.Prelude.{◌≡◌, ℕ, ◌+◌, ◌<◌, List, [], ◌∷◌, ◌++◌, length, Some, None, Option, Result}
 use Rattle.refusal.specs.declared.Refusal.{Refusal}
 use Rattle.store.specs.declared.table.Table.{Table}
 use Rattle.store.specs.Tables.{table_of}
@@ -39,8 +39,3 @@ opened_stage (Some d) = draft (plan_of d)
 abbrev pub sealed_stage : Draft → Option Table → Stage
 sealed_stage d None = draft (plan_of d)
 sealed_stage d (Some t) = survey (surveyed (plan_of d) 1 (table_of t))
-
--- the refusal in a call's answer
-abbrev pub refusal_of : Result (Unit {0}) Refusal → Option Refusal
-refusal_of (Ok u) = None
-refusal_of (Err e) = Some e

@@ -1,9 +1,8 @@
 // Jobs: from the bytes of a job to the text that it prints.
 #![tactic(auto)]
 
-mod loops;
-mod reader;
+mod job;
 mod sheets;
 mod turns;
 
-pub use loops::run_job;
+pub use job::{MOST_BYTES, run_job};

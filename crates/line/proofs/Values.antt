@@ -1,5 +1,5 @@
 -- The value of digits, and that seven of them stay small.
-use Rattle.std.proofs.Common.{◌≡◌, ℕ, zero, suc, ◌+◌, ◌-◌, ◌*◌, ◌^◌, ◌<◌, ◌≤◌, true, List, [], ◌∷◌, length, get_or, drop, sym, ap, ◌∙◌, mul-le-mul_right, pow-suc, arith, length-drop}
+use Rattle.std.proofs.Common.{◌≡◌, ℕ, zero, suc, ◌+◌, ◌-◌, ◌*◌, ◌^◌, ◌<◌, ◌≤◌, true, List, [], ◌∷◌, length, get_or, drop, ap, ◌∙◌, mul-le-mul_right, pow-suc, arith, length-drop}
 use native.Mathlib.Nat.{pow-le-pow_right}
 use Rattle.std.proofs.lemmas.List.{at_drop_more, at_drop_all}
 use Rattle.std.proofs.lemmas.Bool.Decides.{nat_tests}
@@ -25,14 +25,14 @@ decimal_small (d ∷ ds) all =
 pub seven : (ds : List ℕ) → digits ds ≡ true → length ds ≤ 7 → decimal ds < 10 ^ 7
 seven ds all few = omega (arith, decimal_small ds all, pow-le-pow_right {n = 10} (omega arith) few)
 
--- what one digit adds to the sum so far, and that the sum stays small
-pub turn : (ds : List ℕ) (i sum d w : ℕ) → digits ds ≡ true → length ds ≤ 7 → i < length ds → sum + decimal (drop i ds) ≡ decimal ds → d ≡ get_or ds i 0 - 48 → w ≡ 10 ^ (length ds - 1 - i) → (sum + d * w + decimal (drop (i + 1) ds) ≡ decimal ds) × (sum + d * w < 10 ^ 7)
-turn ds i sum d w all few lt inv e f =
-    let more : decimal (drop i ds) ≡ (get_or ds i 0 - 48) * 10 ^ length (drop (i + 1) ds) + decimal (drop (i + 1) ds) = at_drop_more decimal ds i 0 lt in
+-- the value of the digits from an index on, by the first of them
+pub decimal_more : (ds : List ℕ) (i : ℕ) → i < length ds → decimal (drop i ds) ≡ (get_or ds i 0 - 48) * 10 ^ (length ds - 1 - i) + decimal (drop (i + 1) ds)
+decimal_more ds i lt =
     let place : length (drop (i + 1) ds) ≡ length ds - 1 - i = length-drop (i + 1) ds ∙ omega arith in
-    let term : d * w ≡ (get_or ds i 0 - 48) * 10 ^ length (drop (i + 1) ds) = λ j. e j * (f ∙ ap (λ n. 10 ^ n) (sym place)) j in
-    let small = seven ds all few in
-    (omega arith, omega arith)
+    at_drop_more decimal ds i 0 lt ∙ ap (λ n. (get_or ds i 0 - 48) * 10 ^ n + decimal (drop (i + 1) ds)) place
 
-pub whole : (ds : List ℕ) (i sum : ℕ) → length ds ≤ i → sum + decimal (drop i ds) ≡ decimal ds → sum ≡ decimal ds
-whole ds i sum le inv = let none = at_drop_all decimal ds i le in omega arith
+pub decimal_end : (ds : List ℕ) (i : ℕ) → length ds ≤ i → decimal (drop i ds) ≡ 0
+decimal_end ds i le = at_drop_all decimal ds i le
+
+-- what the loop of `value` needs
+pub ruleset digit_sums = (digit_at, seven, decimal_more, decimal_end)

@@ -1,22 +1,17 @@
 -- What a text says: its lines, the words of a line, and the numbers that words write. A byte is a number.
 use Rattle.std.specs.Prelude.{ℕ, ◌+◌, ◌-◌, ◌*◌, ◌^◌, Bool, true, false, cond, not, ◌&&◌, List, [], ◌∷◌, map, length, ℤ, pos, negsuc, neg_ℤ, Some, None, Option, ◌==◌, nat_le}
+use Rattle.std.specs.List.{list_all, slice_split, onto_first}
 use Rattle.line.specs.declared.token.Token.{Token}
 use Rattle.line.specs.declared.token.Token.TheVariants.{Number, Minus}
-
--- a byte before the first of some pieces
-abbrev pub before : ℕ → List (List ℕ) → List (List ℕ)
-before b [] = (b ∷ []) ∷ []
-before b (p ∷ ps) = (b ∷ p) ∷ ps
 
 -- a line feed (10) ends a line, and the last line may lack it
 abbrev pub lines : List ℕ → List (List ℕ)
 lines [] = []
-lines (b ∷ bs) = cond (b == 10) ([] ∷ lines bs) (before b (lines bs))
+lines (b ∷ bs) = cond (b == 10) ([] ∷ lines bs) (onto_first b (lines bs))
 
 -- a space (32) stands between two words, which may be empty
 abbrev pub words : List ℕ → List (List ℕ)
-words [] = [] ∷ []
-words (b ∷ bs) = cond (b == 32) ([] ∷ words bs) (before b (words bs))
+words = slice_split (λ b. b == 32)
 
 -- what a word says
 pub data Field : Type 0 where
@@ -29,8 +24,7 @@ abbrev pub digit : ℕ → Bool
 digit b = nat_le 48 b && nat_le b 57
 
 abbrev pub digits : List ℕ → Bool
-digits [] = true
-digits (b ∷ bs) = digit b && digits bs
+digits = list_all digit
 
 -- the number that digits write, each with the weight of its place
 abbrev pub decimal : List ℕ → ℕ

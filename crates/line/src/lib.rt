@@ -1,7 +1,6 @@
 // Cuts a text into lines, and what follows a line's letter into tokens, and reads numbers.
 #![tactic(auto)]
 
-mod find;
 mod number;
 mod text;
 mod token;

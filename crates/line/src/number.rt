@@ -7,12 +7,7 @@ use crate::token::Token;
 fn all_digits(text: &[u8]) -> bool
     ensures { result ≡ all_digits text.now }
 {
-    for b in text {
-        if !b.is_ascii_digit() {
-            return false;
-        }
-    }
-    true
+    text.iter().all(|b| b.is_ascii_digit())
 }
 
 // Whether these are 1 to 7 digits with no spare zero, and no -0.
@@ -28,6 +23,7 @@ fn well_formed(negative: bool, digits: &[u8]) -> bool
 }
 
 // The number that at most seven digits write.
+#[tactic(auto, using(crate::proofs::Values::digit_sums))]
 fn value(digits: &[u8]) -> u32
     requires few { length digits.now ≤ 7 }
     requires all { all_digits digits.now ≡ true }
@@ -60,10 +56,6 @@ impl<'a> Token<'a> {
     pub fn natural(self) -> Option<u32>
         ensures { result ≡ natural (token_field self.entry) }
     {
-        let n = self.integer()?;
-        if n < 0 {
-            return None;
-        }
-        Some(n as u32)
+        u32::try_from(self.integer()?).ok()
     }
 }

@@ -1,8 +1,6 @@
 // The lines of a text, one after another.
-ghost use Rattle.std.specs.Prelude.{◌≡◌, ◌+◌, ◌^◌, ◌<◌, [], ◌∷◌, length, MatchOption};
+ghost use Rattle.std.specs.Prelude.{◌≡◌, ◌+◌, ◌^◌, ◌<◌, ◌==◌, [], ◌∷◌, length, MatchOption, position};
 ghost use Rattle.line.specs.Line.{lines};
-
-use crate::find::{first_of, tail};
 
 #[derive(Drop)]
 pub struct Lines<'a> {
@@ -11,6 +9,26 @@ pub struct Lines<'a> {
     number: usize,
     // Each line takes a byte at least, so that the count never overflows.
     ghost counts: { number + length rest.now < 2 ^ 64 },
+}
+
+// The index of the first line feed.
+fn line_feed(text: &[u8]) -> Option<usize>
+    ensures { result ≡ position (λ b. b == 10) text.now }
+{
+    text.iter().position(|b| *b == b'\n')
+}
+
+// The first line of a text without its line feed, and what follows that.
+#[tactic(auto, using(crate::proofs::Cuts::lines_cut, crate::proofs::Cuts::lines_whole, std::proofs::lemmas::Grind::common_steps))]
+fn cut_line(text: &[u8]) -> (&[u8], &[u8])
+    requires { 0 < length text.now }
+    ensures cut { lines text.now ≡ result.0.now ∷ lines result.1.now }
+    ensures shorter { length result.1.now < length text.now }
+{
+    match line_feed(text) {
+        Some(n) => (&text[..n], &text[n + 1..]),
+        None => (text, &[]),
+    }
 }
 
 impl<'a> Lines<'a> {
@@ -29,14 +47,12 @@ impl<'a> Lines<'a> {
         ensures count { MatchOption result (self.new.number ≡ self.old.number) (λ _. self.new.number ≡ self.old.number + 1) }
         ensures shorter { MatchOption result (length self.old.rest.now ≡ 0) (λ _. length self.new.rest.now < length self.old.rest.now) }
     {
-        let rest = self.rest;
-        if rest.is_empty() {
+        if self.rest.is_empty() {
             return None;
         }
-        let n = first_of(rest, b'\n');
-        let (line, after) = rest.split_at(n);
+        let (line, rest) = cut_line(self.rest);
         self.number += 1;
-        self.rest = tail(after);
+        self.rest = rest;
         Some(line)
     }
 

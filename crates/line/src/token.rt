@@ -1,5 +1,5 @@
 // The token, one field of a line.
-#[derive(Clone, Copy)]
+#[derive(Clone, Copy, PartialEq, Eq, Debug)]
 pub enum Token<'a> {
     // An optional minus, and the bytes that should be digits.
     Number { negative: bool, digits: &'a [u8] },

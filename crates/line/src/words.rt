@@ -3,7 +3,6 @@ ghost use Rattle.std.specs.Prelude.{◌≡◌, map, IfOk};
 ghost use Rattle.std.specs.Option.{option_map};
 ghost use Rattle.line.specs.Line.{field, fields, token_field};
 
-use crate::find::{first_of, tail};
 use crate::token::Token;
 use std::alloc::{AllocError, Global};
 
@@ -12,13 +11,13 @@ fn read_token<'a>(word: &'a [u8]) -> Token<'a>
 {
     match word {
         [b'-'] => Token::Minus,
-        [b'-', ..] => Token::Number {
+        [b'-', digits @ ..] => Token::Number {
             negative: true,
-            digits: tail(word),
+            digits,
         },
-        _ => Token::Number {
+        digits => Token::Number {
             negative: false,
-            digits: word,
+            digits,
         },
     }
 }
@@ -27,16 +26,11 @@ fn read_token<'a>(word: &'a [u8]) -> Token<'a>
 pub fn read_tokens<'a>(heap: Global, text: &'a [u8]) -> Result<Option<Vec<Token<'a>>>, AllocError>
     ensures { IfOk result (λ o. option_map (λ v. map token_field v.items) o ≡ fields text.now) }
 {
-    let mut tokens = Vec::new(heap);
-    let mut rest = text;
-    while let [b' ', ..] = rest {
-        let after = tail(rest);
-        let (word, next) = after.split_at(first_of(after, b' '));
-        tokens.push(read_token(word))?;
-        rest = next;
-    }
-    if rest.is_empty() {
-        return Ok(Some(tokens));
-    }
-    Ok(None)
+    let words = match text {
+        [] => return Ok(Some(Vec::new(heap))),
+        [b' ', words @ ..] => words,
+        _ => return Ok(None),
+    };
+    let tokens = words.split(|b| *b == b' ').map(read_token).collect(heap)?;
+    Ok(Some(tokens))
 }

@@ -1,5 +1,6 @@
 -- Columns of verdicts, and routes that stay among the places.
-use Rattle.std.proofs.Common.{◌≡◌, ℕ, zero, suc, ◌+◌, ◌<◌, ◌≤◌, Bool, true, false, ◌&&◌, leb, List, [], ◌∷◌, map, length, get_or, Some, None, Option, sym, refl, ◌∙◌, subst, arith, leb-true}
+use Rattle.std.proofs.Common.{◌≡◌, ℕ, zero, suc, ◌+◌, ◌<◌, ◌≤◌, true, List, [], ◌∷◌, map, length, get_or, Some, None, Option, sym, refl, ◌∙◌, arith}
+use Rattle.std.proofs.lemmas.Bool.Decides.{nat_tests}
 use Rattle.std.specs.List.{range_with_len}
 use Rattle.std.proofs.lemmas.List.FromFn.{length-map-range_with_len, get_or-map-range_with_len}
 use Rattle.verdict.specs.Algebra.{Ops, Laws}
@@ -18,7 +19,7 @@ use Rattle.monitor.proofs.Windows.{least_like}
 counted_like : {V : Type 0} (f g : ℕ → V) (a n : ℕ) → ((k : ℕ) → k < a + n → f k ≡ g k) → map f (range_with_len a n) ≡ map g (range_with_len a n)
 counted_like f g a zero e = refl
 counted_like f g a (suc n) e =
-    λ j. e a (omega arith) j ∷ counted_like f g (a + 1) n (λ k lt. e k (omega arith)) j
+    rw (e a (omega arith), counted_like f g (a + 1) n (λ k lt. e k (omega arith)))
 
 pub column_like : {V : Type 0} (n : ℕ) (f g : ℕ → V) → ((k : ℕ) → k < n → f k ≡ g k) → column n f ≡ column n g
 column_like n f g e = counted_like f g 0 n (λ k lt. e k (omega arith))
@@ -31,22 +32,8 @@ column_at n f p d lt = get_or-map-range_with_len f 0 n p p d lt (omega arith)
 
 -- distances in an interval are small
 pub small : (a : ℕ) (b : Option ℕ) → are_distances a b ≡ true → cap a b ≤ 128
-small a None e = omega (arith, leb-true a 127 e)
-small a (Some b) e = omega (arith, leb-true b 127 (right_of (leb a b) (leb b 127) e))
-  where
-    right_of : (x y : Bool) → (x && y) ≡ true → y ≡ true
-    right_of true y h = h
-    right_of false y h = absurd (let z : ◌≡◌ {A = ℕ} 0 1 = cc in omega arith)
-
--- and so is the lower one
-pub low_small : (a : ℕ) (b : Option ℕ) → are_distances a b ≡ true → a ≤ 127
-low_small a None e = leb-true a 127 e
-low_small a (Some b) e = go (leb a b) (leb b 127) refl refl e
-  where
-    go : (x y : Bool) → leb a b ≡ x → leb b 127 ≡ y → (x && y) ≡ true → a ≤ 127
-    go true true ex ey h = omega (arith, leb-true a b ex, leb-true b 127 ey)
-    go true false ex ey h = absurd (let z : ◌≡◌ {A = ℕ} 0 1 = cc in omega arith)
-    go false y ex ey h = absurd (let z : ◌≡◌ {A = ℕ} 0 1 = cc in omega arith)
+small a None e = grind (arith, nat_tests)
+small a (Some b) e = grind (arith, nat_tests)
 
 -- a route asks only for verdicts at places
 along_like : {V : Type 0} (o : Ops V) (r q s u : ℕ → V) (may : Pipe → Type 0) (places : ℕ) (pipes : List Pipe) → Joined places pipes → ((k : ℕ) → k < places → r k ≡ q k) → ((k : ℕ) → k < places → s k ≡ u k) → (p : ℕ) (π : List Pipe) → p < places → Leads may pipes p π → along o r s p π ≡ along o q u p π
@@ -59,4 +46,4 @@ pub reach_least : {V : Type 0} {o : Ops V} (ls : Laws o) {x : Extend} (ms : Meas
 reach_least {V} {o} ls {x} ms t places pipes joined r s a b ok p hp =
     least_like ls
     (λ u. along_like o (val o (column places r)) r (val o (column places s)) s (Stands t) places pipes joined (λ k lt. column_at places r k o.bottom lt) (λ k lt. column_at places s k o.bottom lt) p u.over hp u.leads)
-    (reaches ls ms t pipes (column places r) (column places s) a b (column_length places s ∙ sym (column_length places r)) (subst (λ n. Joined n pipes) (sym (column_length places r)) joined) (omega (arith, small a b ok)) p (subst (λ n. p < n) (sym (column_length places r)) hp))
+    (reaches ls ms t pipes (column places r) (column places s) a b (column_length places s ∙ sym (column_length places r)) (rw (column_length places r) joined) (omega (arith, small a b ok)) p (rw (column_length places r) hp))

@@ -4,4 +4,3 @@ mod Columns
 pub mod OneSheet
 pub mod Positions
 pub mod Filling
-mod Scan

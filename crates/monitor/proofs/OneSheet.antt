@@ -1,5 +1,6 @@
 -- The verdicts are the one and only sheet.
-use Rattle.std.proofs.Common.{◌≡◌, ℕ, zero, suc, ◌+◌, ◌-◌, ◌<◌, min, Bool, true, false, ◌&&◌, ltb, length, sym, refl, ap, ◌∙◌, subst, arith, ltb-true}
+use Rattle.std.proofs.Common.{◌≡◌, ℕ, zero, suc, ◌+◌, ◌-◌, ◌<◌, min, true, length, sym, refl, ap, ◌∙◌, arith}
+use Rattle.std.proofs.lemmas.Bool.{and_parts, ltb-true}
 use Rattle.reading.specs.Ends.{Ends}
 use Rattle.verdict.specs.Algebra.{Ops, Laws}
 use Rattle.verdict.proofs.Order.{least_unique}
@@ -14,17 +15,6 @@ use Rattle.monitor.specs.Meaning.{Sheet, row_at, Means, IsSheet}
 use Rattle.monitor.specs.Verdicts.{value, below, verdict, OneSheet}
 use Rattle.monitor.proofs.Windows.{windowed_like, later_least, earlier_least}
 use Rattle.monitor.proofs.Columns.{column_like, reach_least}
-
-pub left_of : (a b : Bool) → (a && b) ≡ true → a ≡ true
-left_of true b e = refl
-left_of false b e = e
-
-pub right_of : (a b : Bool) → (a && b) ≡ true → b ≡ true
-right_of true b e = e
-right_of false b e = absurd (let z : ◌≡◌ {A = ℕ} 0 1 = cc in omega arith)
-
-pub is_below : (r n : ℕ) → ltb r n ≡ true → r < n
-is_below r n e = ltb-true r n e
 
 module _ {V : Type 0} (o : Ops V) (x : Extend) (plan : Plan) (readings : ℕ → Ends) where
   abbrev says : Sheet V → Statement → ℕ → ℕ → V
@@ -43,21 +33,21 @@ module _ {V : Type 0} (o : Ops V) (x : Extend) (plan : Plan) (readings : ℕ →
   -- a statement asks only for the rows that it refers to
   pub says_like : (f g : Sheet V) (s : Statement) (i t p : ℕ) → refers i s ≡ true → t < plan.steps → p < plan.places → Agree i f g → says f s t p ≡ says g s t p
   says_like f g (AtLeast c k) i t p ref ht hp e = refl
-  says_like f g (Not r) i t p ref ht hp e = ap o.neg (e r t p (is_below r i ref) ht hp)
+  says_like f g (Not r) i t p ref ht hp e = ap o.neg (e r t p (ltb-true r i ref) ht hp)
   says_like f g (And r s) i t p ref ht hp e =
-      λ j. o.meet (e r t p (is_below r i (left_of _ _ ref)) ht hp j) (e s t p (is_below s i (right_of _ _ ref)) ht hp j)
+      λ j. o.meet (e r t p (ltb-true r i (and_parts _ _ ref).0) ht hp j) (e s t p (ltb-true s i (and_parts _ _ ref).1) ht hp j)
   says_like f g (Or r s) i t p ref ht hp e =
-      λ j. o.join (e r t p (is_below r i (left_of _ _ ref)) ht hp j) (e s t p (is_below s i (right_of _ _ ref)) ht hp j)
-  says_like f g (Until r s a b) i t p ref ht hp e =
-      windowed_like o _ _ _ _ a (min (b + 1) (plan.steps - t))
-      (λ k lt. e r (t + k) p (is_below r i (left_of _ _ ref)) (omega arith) hp)
-      (λ k lt. e s (t + k) p (is_below s i (right_of _ _ ref)) (omega arith) hp)
-  says_like f g (Since r s a b) i t p ref ht hp e =
-      windowed_like o _ _ _ _ a (min (b + 1) (t + 1))
-      (λ k lt. e r (t - k) p (is_below r i (left_of _ _ ref)) (omega arith) hp)
-      (λ k lt. e s (t - k) p (is_below s i (right_of _ _ ref)) (omega arith) hp)
-  says_like f g (Reach r s a b) i t p ref ht hp e =
-      λ j. reached o x t plan.pipes (column_like plan.places (f r t) (g r t) (λ k lt. e r t k (is_below r i (left_of _ _ ref)) ht lt) j) (column_like plan.places (f s t) (g s t) (λ k lt. e s t k (is_below s i (right_of _ _ ref)) ht lt) j) a b p
+      λ j. o.join (e r t p (ltb-true r i (and_parts _ _ ref).0) ht hp j) (e s t p (ltb-true s i (and_parts _ _ ref).1) ht hp j)
+  says_like f g (Until w) i t p ref ht hp e =
+      windowed_like o _ _ _ _ w.from (min (w.upto + 1) (plan.steps - t))
+      (λ k lt. e w.hold (t + k) p (ltb-true w.hold i (and_parts _ _ ref).0) (omega arith) hp)
+      (λ k lt. e w.goal (t + k) p (ltb-true w.goal i (and_parts _ _ ref).1) (omega arith) hp)
+  says_like f g (Since w) i t p ref ht hp e =
+      windowed_like o _ _ _ _ w.from (min (w.upto + 1) (t + 1))
+      (λ k lt. e w.hold (t - k) p (ltb-true w.hold i (and_parts _ _ ref).0) (omega arith) hp)
+      (λ k lt. e w.goal (t - k) p (ltb-true w.goal i (and_parts _ _ ref).1) (omega arith) hp)
+  says_like f g (Reach r s d) i t p ref ht hp e =
+      λ j. reached o x t plan.pipes (column_like plan.places (f r t) (g r t) (λ k lt. e r t k (ltb-true r i (and_parts _ _ ref).0) ht lt) j) (column_like plan.places (f s t) (g s t) (λ k lt. e s t k (ltb-true s i (and_parts _ _ ref).1) ht lt) j) d.from d.upto p
   says_like f g Yes i t p ref ht hp e = refl
 
   module _ (ordered : Ordered plan.rows) where
@@ -81,10 +71,12 @@ module _ {V : Type 0} (o : Ops V) (x : Extend) (plan : Plan) (readings : ℕ →
       value_means f (Not r) t p ok ht hp = refl
       value_means f (And r s) t p ok ht hp = refl
       value_means f (Or r s) t p ok ht hp = refl
-      value_means f (Until r s a b) t p ok ht hp = later_least ls (λ k. f r (t + k) p) (λ k. f s (t + k) p) a plan.steps t b ht
-      value_means f (Since r s a b) t p ok ht hp = earlier_least ls (λ k. f r (t - k) p) (λ k. f s (t - k) p) a t b
-      value_means f (Reach r s a b) t p ok ht hp =
-          reach_least ls ms t plan.places plan.pipes joined (f r t) (f s t) a b ok p hp
+      value_means f (Until w) t p ok ht hp =
+          later_least ls (λ k. f w.hold (t + k) p) (λ k. f w.goal (t + k) p) w.from plan.steps t w.upto ht
+      value_means f (Since w) t p ok ht hp =
+          earlier_least ls (λ k. f w.hold (t - k) p) (λ k. f w.goal (t - k) p) w.from t w.upto
+      value_means f (Reach r s d) t p ok ht hp =
+          reach_least ls ms t plan.places plan.pipes joined (f r t) (f s t) d.from d.upto ok p hp
       value_means f Yes t p ok ht hp = refl
 
       -- and nothing else has
@@ -93,16 +85,16 @@ module _ {V : Type 0} (o : Ops V) (x : Extend) (plan : Plan) (readings : ℕ →
       means_unique f (Not r) t p v w mv mw = mv ∙ sym mw
       means_unique f (And r s) t p v w mv mw = mv ∙ sym mw
       means_unique f (Or r s) t p v w mv mw = mv ∙ sym mw
-      means_unique f (Until r s a b) t p v w mv mw = least_unique ls mv mw
-      means_unique f (Since r s a b) t p v w mv mw = least_unique ls mv mw
-      means_unique f (Reach r s a b) t p v w mv mw = least_unique ls mv mw
+      means_unique f (Until u) t p v w mv mw = least_unique ls mv mw
+      means_unique f (Since u) t p v w mv mw = least_unique ls mv mw
+      means_unique f (Reach r s d) t p v w mv mw = least_unique ls mv mw
       means_unique f Yes t p v w mv mw = mv ∙ sym mw
 
       -- the meaning asks only for the rows that the statement refers to
       means_like : (f g : Sheet V) (s : Statement) (i t p : ℕ) (v : V) → refers i s ≡ true → has_interval s ≡ true → t < plan.steps → p < plan.places → Agree i f g → Means o x plan readings f s t p v → Means o x plan readings g s t p v
       means_like f g s i t p v ref ok ht hp e m =
           let is : v ≡ says f s t p = means_unique f s t p v (says f s t p) m (value_means f s t p ok ht hp) in
-          subst (Means o x plan readings g s t p) (sym (is ∙ says_like f g s i t p ref ht hp e)) (value_means g s t p ok ht hp)
+          rw (is, says_like f g s i t p ref ht hp e) (value_means g s t p ok ht hp)
 
       agrees : (f : Sheet V) → IsSheet o x plan readings f → (n i t p : ℕ) → i < n → i < length plan.rows → t < plan.steps → p < plan.places → f i t p ≡ settled i t p
       agrees f sheet zero i t p hn hi ht hp = absurd (omega arith)
@@ -114,6 +106,6 @@ module _ {V : Type 0} (o : Ops V) (x : Extend) (plan : Plan) (readings : ℕ →
 
       pub one_sheet : OneSheet o x plan readings
       one_sheet = record {
-        meant = record { means = λ i t p hi ht hp. subst (Means o x plan readings settled (row_at plan i) t p) (sym (settles i t p hi ht hp)) (value_means settled (row_at plan i) t p (intervals i hi) ht hp) };
+        meant = record { means = λ i t p hi ht hp. rw (settles i t p hi ht hp) (value_means settled (row_at plan i) t p (intervals i hi) ht hp) };
         only = λ f sheet i t p hi ht hp. agrees f sheet (suc i) i t p (omega arith) hi ht hp;
       }

@@ -1,25 +1,11 @@
 -- The order of the positions on a board: by row, then by step, then by place.
-use Rattle.std.proofs.Common.{◌≡◌, ℕ, ◌+◌, ◌*◌, ◌/◌, ◌%◌, ◌<◌, ◌≤◌, true, ltb, sym, ap, ◌∙◌, mul-le-mul_right, add-mul, one-mul, arith, ltb-true}
+use Rattle.std.proofs.Common.{◌≡◌, ℕ, ◌+◌, ◌*◌, ◌/◌, ◌%◌, ◌<◌, ◌≤◌, true, ltb, sym, ap, ◌∙◌, mul-le-mul_right, arith, ltb-true}
 use Rattle.plan.specs.Plans.{Plan, index}
 use lib.Arith.{digits_div, digits_mod}
 
 module _ (S P : ℕ) where
   abbrev at : ℕ → ℕ → ℕ → ℕ
   at i t p = (i * S + t) * P + p
-
-  one_more : (a b : ℕ) → (a + 1) * b ≡ a * b + b
-  one_more a b = add-mul a 1 b ∙ ap (λ n. a * b + n) (one-mul b)
-
-  pub next_place : (i t p : ℕ) → at i t p + 1 ≡ at i t (p + 1)
-  next_place i t p = omega arith
-
-  pub next_step : (i t : ℕ) → at i t P ≡ at i (t + 1) 0
-  next_step i t =
-      let e : (i * S + (t + 1)) * P ≡ (i * S + t) * P + P = ap (λ n. n * P) (omega arith) ∙ one_more (i * S + t) P in
-      omega (arith, e)
-
-  pub next_row : (i : ℕ) → at i S 0 ≡ at (i + 1) 0 0
-  next_row i = ap (λ n. n * P + 0) (omega (arith, one_more i S))
 
   -- a row begins before all of its positions
   pub start : (i t p : ℕ) → at i 0 0 ≤ at i t p
@@ -28,7 +14,7 @@ module _ (S P : ℕ) where
   -- and a step of it ends before the next row begins
   pub within_row : (i t : ℕ) → t ≤ S → at i t 0 ≤ at (i + 1) 0 0
   within_row i t le =
-      let line : (i * S + t) * P ≤ (i * S + S) * P = mul-le-mul_right P (omega arith) in omega (arith, line, next_row i)
+      let line : (i * S + t) * P ≤ (i * S + S) * P = mul-le-mul_right P (omega arith) in omega (arith, line)
 
   pub within_all : (i n : ℕ) → i ≤ n → at i 0 0 ≤ at n 0 0
   within_all i n le =
@@ -40,9 +26,9 @@ module _ (S P : ℕ) where
   pub earlier : (r i t p t' p' : ℕ) → r < i → t < S → p < P → at r t p < at i t' p'
   earlier r i t p t' p' hr ht hp =
       let rows : (r + 1) * S ≤ i * S = mul-le-mul_right S (omega arith) in
-      let line : (r * S + t) + 1 ≤ i * S + t' = omega (arith, rows, one_more r S) in
+      let line : (r * S + t) + 1 ≤ i * S + t' = omega (arith, rows) in
       let lines : ((r * S + t) + 1) * P ≤ (i * S + t') * P = mul-le-mul_right P line in
-      omega (arith, lines, one_more (r * S + t) P)
+      omega (arith, lines)
 
   -- a position is that of one row, step and place
   pub injective : (i t p j u q : ℕ) → t < S → p < P → u < S → q < P → at i t p ≡ at j u q → (i ≡ j) × (t ≡ u) × (p ≡ q)
@@ -57,8 +43,3 @@ module _ (S P : ℕ) where
 pub within : (plan : Plan) (r i t p room : ℕ) → ltb r i ≡ true → t < plan.steps → p < plan.places → index plan i 0 0 ≤ room → index plan r t p < room
 within plan r i t p room e ht hp le =
     omega (arith, earlier plan.steps plan.places r i t p 0 0 (ltb-true r i e) ht hp)
-
--- so does the whole of it
-pub within_rows : (plan : Plan) (r i room : ℕ) → ltb r i ≡ true → index plan i 0 0 ≤ room → index plan (r + 1) 0 0 ≤ room
-within_rows plan r i room e le =
-    omega (arith, within_all plan.steps plan.places (r + 1) i (omega (arith, ltb-true r i e)))

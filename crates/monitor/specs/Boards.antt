@@ -1,5 +1,6 @@
 -- Boards: where each verdict of a sheet stands, and when a sheet is refused.
-use Rattle.std.specs.Prelude.{◌≡◌, ℕ, zero, suc, ◌*◌, ◌<◌, ◌≤◌, Bool, true, false, cond, List, [], ◌∷◌, length, Some, None, Option, ◌==◌, nat_lt, slice_index_or}
+use Rattle.std.specs.Prelude.{◌≡◌, ℕ, ◌*◌, ◌<◌, ◌≤◌, Bool, true, false, not, List, [], ◌∷◌, length, Some, None, Option, ◌==◌, nat_lt, slice_index_or}
+use Rattle.std.specs.List.{find, range_with_len}
 use Rattle.refusal.specs.declared.Refusal.{Refusal}
 use Rattle.refusal.specs.declared.Refusal.TheVariants.{NoRow, ShortBoard, ShortWork, NotExact}
 use Rattle.refusal.specs.Checks.{Check, first}
@@ -17,10 +18,9 @@ use Rattle.monitor.specs.Verdicts.{column}
 abbrev pub area : Plan → ℕ
 area plan = length plan.rows * plan.steps * plan.places
 
--- the smallest cell from k on, of n cells, that is not exact
-abbrev pub inexact : (ℕ → Ends) → ℕ → ℕ → Option ℕ
-inexact readings k zero = None
-inexact readings k (suc n) = cond (is_exact (readings k)) (inexact readings (suc k) n) (Some k)
+-- the smallest of n cells that is not exact
+abbrev pub inexact : (ℕ → Ends) → ℕ → Option ℕ
+inexact readings n = find (λ k. not (is_exact (readings k))) (range_with_len 0 n)
 
 -- a kind that takes ranges asks nothing of them; another kind asks that all are exact
 abbrev pub exactness_checks : Bool → Option ℕ → List Check
@@ -34,7 +34,7 @@ sheet_checks plan readings ranged board work =
     ((length plan.rows == 0), NoRow)
     ∷ (nat_lt board (area plan), ShortBoard)
     ∷ (nat_lt work (256 * plan.places), ShortWork)
-    ∷ exactness_checks ranged (inexact readings 0 (cells plan))
+    ∷ exactness_checks ranged (inexact readings (cells plan))
 
 abbrev pub sheet_refusal : Plan → (ℕ → Ends) → Bool → ℕ → ℕ → Option Refusal
 sheet_refusal plan readings ranged board work = first (sheet_checks plan readings ranged board work)
@@ -68,8 +68,8 @@ module _ {V : Type 0} (o : Ops V) (x : Extend) (plan : Plan) (f : Sheet V) (t : 
   Prepared (Not r) = Unit {0}
   Prepared (And r s) = Unit {0}
   Prepared (Or r s) = Unit {0}
-  Prepared (Until r s a b) = Unit {0}
-  Prepared (Since r s a b) = Unit {0}
-  Prepared (Reach r s a b) =
-      (p : ℕ) → p < plan.places → gathered o plan.places work a b p ≡ reached o x t plan.pipes (column plan.places (f r t)) (column plan.places (f s t)) a b p
+  Prepared (Until w) = Unit {0}
+  Prepared (Since w) = Unit {0}
+  Prepared (Reach r s d) =
+      (p : ℕ) → p < plan.places → gathered o plan.places work d.from d.upto p ≡ reached o x t plan.pipes (column plan.places (f r t)) (column plan.places (f s t)) d.from d.upto p
   Prepared Yes = Unit {0}

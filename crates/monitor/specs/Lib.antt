@@ -3,3 +3,4 @@ pub mod Meaning
 pub mod Verdicts
 pub mod Boards
 pub mod Cases
+pub mod AtStep

@@ -46,15 +46,15 @@ module _ {V : Type 0} (o : Ops V) (x : Extend) (plan : Plan) (readings : ℕ →
   Means f (Not r) t p v = v ≡ o.neg (f r t p)
   Means f (And r s) t p v = v ≡ o.meet (f r t p) (f s t p)
   Means f (Or r s) t p v = v ≡ o.join (f r t p) (f s t p)
-  -- the least verdict at or above, for each later step, the meet of s then with r at all steps from now to then
-  Means f (Until r s a b) t p v =
-      Least o (Later plan.steps t a b) (λ u. o.meet (f s (t + u.wait) p) (throughout o (λ k. f r (t + k) p) u.wait)) v
+  -- the least verdict at or above, for each later step, the meet of the goal then with `hold` at all steps from now to then
+  Means f (Until w) t p v =
+      Least o (Later plan.steps t w.from w.upto) (λ u. o.meet (f w.goal (t + u.wait) p) (throughout o (λ k. f w.hold (t + k) p) u.wait)) v
   -- the same over earlier steps
-  Means f (Since r s a b) t p v =
-      Least o (Earlier t a b) (λ u. o.meet (f s (t - u.ago) p) (throughout o (λ k. f r (t - k) p) u.ago)) v
+  Means f (Since w) t p v =
+      Least o (Earlier t w.from w.upto) (λ u. o.meet (f w.goal (t - u.ago) p) (throughout o (λ k. f w.hold (t - k) p) u.ago)) v
   -- the least verdict at or above, for each route from p in the interval, the meet of s at its last place with r at every earlier one
-  Means f (Reach r s a b) t p v =
-      Least o (Reaching x t plan.pipes a b p) (λ u. along o (f r t) (f s t) p u.over) v
+  Means f (Reach r s d) t p v =
+      Least o (Reaching x t plan.pipes d.from d.upto p) (λ u. along o (f r t) (f s t) p u.over) v
   Means f Yes t p v = v ≡ o.top
 
   -- f has at every row, step and place of the plan the verdict that the row means there

@@ -27,11 +27,12 @@ module _ {V : Type 0} (o : Ops V) (x : Extend) (plan : Plan) (readings : ℕ →
   value f (Not r) t p = o.neg (f r t p)
   value f (And r s) t p = o.meet (f r t p) (f s t p)
   value f (Or r s) t p = o.join (f r t p) (f s t p)
-  value f (Until r s a b) t p =
-      windowed o (λ k. f r (t + k) p) (λ k. f s (t + k) p) a (min (b + 1) (plan.steps - t))
-  value f (Since r s a b) t p = windowed o (λ k. f r (t - k) p) (λ k. f s (t - k) p) a (min (b + 1) (t + 1))
-  value f (Reach r s a b) t p =
-      reached o x t plan.pipes (column plan.places (f r t)) (column plan.places (f s t)) a b p
+  value f (Until w) t p =
+      windowed o (λ k. f w.hold (t + k) p) (λ k. f w.goal (t + k) p) w.from (min (w.upto + 1) (plan.steps - t))
+  value f (Since w) t p =
+      windowed o (λ k. f w.hold (t - k) p) (λ k. f w.goal (t - k) p) w.from (min (w.upto + 1) (t + 1))
+  value f (Reach r s d) t p =
+      reached o x t plan.pipes (column plan.places (f r t)) (column plan.places (f s t)) d.from d.upto p
   value f Yes t p = o.top
 
   -- the verdicts of the rows below n; a row refers to rows before it, so n turns settle them

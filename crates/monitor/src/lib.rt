@@ -3,8 +3,7 @@
 
 mod cases;
 mod drawing;
-mod space_rows;
-mod time;
+mod row;
 
 pub use cases::until_is_bottom_at_the_end;
 pub use drawing::draw;

@@ -22,7 +22,8 @@ fn capped_sum(distance: u16, more: u32) -> u16
 }
 
 // How many pipes a route has.
-pub struct Hops {}
+#[derive(Clone, Copy, PartialEq, Eq, Debug)]
+pub struct Hops;
 
 impl Measure for Hops {
     ghost extend = { by_hops };
@@ -35,7 +36,8 @@ impl Measure for Hops {
 }
 
 // How long a route is.
-pub struct Lengths {}
+#[derive(Clone, Copy, PartialEq, Eq, Debug)]
+pub struct Lengths;
 
 impl Measure for Lengths {
     ghost extend = { by_lengths };
@@ -48,7 +50,8 @@ impl Measure for Lengths {
 }
 
 // The greatest drop on a route.
-pub struct Drops {}
+#[derive(Clone, Copy, PartialEq, Eq, Debug)]
+pub struct Drops;
 
 impl Measure for Drops {
     ghost extend = { by_drops };

@@ -1,7 +1,7 @@
 // A pipe of the network.
 
 // Leads from one place to another, and stands from its first step to its last, both counted.
-#[derive(Clone, Copy)]
+#[derive(Clone, Copy, PartialEq, Eq, Debug)]
 pub struct Pipe {
     pub from: u32,
     pub to: u32,

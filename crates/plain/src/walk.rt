@@ -1,92 +1,55 @@
 // Where routes end, by following pipes one at a time.
+use crate::book::Spot;
+use crate::drawing::Drawing;
+use command::MeasureName;
 use network::Pipe;
-use std::alloc::{AllocError, Global};
+use std::alloc::AllocError;
+use std::collections::BTreeSet;
 
 // Every distance from 128 on is as far as 128: no limit is above 127.
-pub(crate) const FAR: u32 = 128;
+const FAR: u32 = 128;
 
-// The measures by their numbers: hops, lengths, drops.
-fn further(measure: u32, distance: u32, pipe: &Pipe) -> u32 {
+// How many pairs of a place and a distance there are on the largest plan.
+const PAIRS: u32 = 32 * 129;
+
+fn further(measure: MeasureName, distance: u32, pipe: &Pipe) -> u32 {
     let more = match measure {
-        1 => distance.saturating_add(1),
-        2 => distance.saturating_add(pipe.length),
-        _ => distance.max(pipe.drop),
+        MeasureName::Hops => distance.saturating_add(1),
+        MeasureName::Lengths => distance.saturating_add(pipe.length),
+        MeasureName::Drops => distance.max(pipe.drop),
     };
     more.min(FAR)
 }
 
-// Every pair of a place and a distance that some route has found.
-#[derive(Drop)]
-pub(crate) struct Found {
-    marks: Vec<bool>,
-}
-
-impl Found {
-    fn none(heap: Global, places: u32) -> Result<Found, AllocError> {
-        let count = (places as usize).saturating_mul(129);
-        let mut marks = Vec::with_capacity(heap, count)?;
-        for _ in 0..count {
-            marks.push(false)?;
-        }
-        Ok(Found { marks })
-    }
-
-    fn index(place: u32, distance: u32) -> usize {
-        (place as usize)
-            .saturating_mul(129)
-            .saturating_add(distance as usize)
-    }
-
-    pub(crate) fn has(&self, place: u32, distance: u32) -> bool {
-        self.marks
-            .get(Found::index(place, distance))
-            .copied()
-            .unwrap_or(false)
-    }
-
-    // Whether the pair is new.
-    fn add(&mut self, place: u32, distance: u32) -> bool {
-        match self.marks.get_mut(Found::index(place, distance)) {
-            Some(mark) => {
-                let new = !*mark;
-                *mark = true;
-                new
+impl Drawing<'_> {
+    // The end and the distance of each route from a spot that leaves none but allowed places.
+    pub(crate) fn walk<F: Fn(u32) -> bool>(
+        &self,
+        start: Spot,
+        allowed: F,
+    ) -> Result<BTreeSet<(u32, u32)>, AllocError>
+        requires { F.IsAlwaysCallable allowed }
+    {
+        let mut found = BTreeSet::new(self.heap);
+        let mut waiting = vec![in self.heap; (start.place, 0u32)]?;
+        found.insert((start.place, 0u32))?;
+        // each pair waits once
+        for _ in 0..PAIRS {
+            let Some((place, distance)) = waiting.pop() else {
+                break;
+            };
+            if !allowed(place) {
+                continue;
             }
-            None => false,
-        }
-    }
-}
-
-// The ends of all routes from a place that leave none but allowed places.
-pub(crate) fn walk(
-    heap: Global,
-    pipes: &[Pipe],
-    step: u32,
-    measure: u32,
-    start: u32,
-    allowed: &[bool],
-) -> Result<Found, AllocError> {
-    let mut found = Found::none(heap, allowed.len().min(32) as u32)?;
-    let mut waiting = Vec::new(heap);
-    if found.add(start, 0) {
-        waiting.push((start, 0u32))?;
-    }
-    // each pair waits once
-    for _ in 0..found.marks.len() {
-        let Some((place, distance)) = waiting.pop() else {
-            break;
-        };
-        if !allowed.get(place as usize).copied().unwrap_or(false) {
-            continue;
-        }
-        for pipe in pipes {
-            if pipe.from == place && pipe.first <= step && step <= pipe.last {
-                let far = further(measure, distance, pipe);
-                if found.add(pipe.to, far) {
-                    waiting.push((pipe.to, far))?;
+            for pipe in self.book.pipes.as_slice() {
+                if pipe.from == place && (pipe.first..=pipe.last).contains(&start.step) {
+                    let end = (pipe.to, further(self.measure, distance, pipe));
+                    if found.insert(end)? {
+                        waiting.push(end)?;
+                    }
                 }
             }
         }
+        Ok(found)
     }
-    Ok(found)
 }

@@ -2,8 +2,9 @@
 #![tactic(auto)]
 
 mod draft;
-mod drafting;
+mod size;
 mod statement;
 
 pub use draft::Draft;
-pub use statement::{Row, Statement};
+pub use size::Size;
+pub use statement::{Row, Statement, Window};

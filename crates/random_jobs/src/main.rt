@@ -13,17 +13,17 @@ use crate::spelling::spell;
 use crate::tally::Tally;
 use job::run_job;
 use plain::{Line, Witness};
-use std::alloc::AllocError;
+use std::alloc::{AllocError, Global};
 use std::{env, io};
 
 // A job of more bytes is not run.
 const MOST_BYTES: usize = 8_192;
 
 // The text of a job. Its last line may lack the line feed, unless it is empty.
-fn job_text(rt: &HostRuntime, random: &mut Random, lines: &[Line]) -> Result<String, AllocError> {
-    let mut text = String::new(rt.alloc());
+fn job_text(heap: Global, random: &mut Random, lines: &[Line]) -> Result<String, AllocError> {
+    let mut text = String::new(heap);
     for line in lines {
-        spell(rt.alloc(), random, *line, &mut text)?;
+        spell(random, *line, &mut text)?;
     }
     if random.one_in(2) && !text.as_str().ends_with("\n\n") {
         let _ = text.pop();
@@ -31,72 +31,51 @@ fn job_text(rt: &HostRuntime, random: &mut Random, lines: &[Line]) -> Result<Str
     Ok(text)
 }
 
-// Makes one job, and runs and compares it.
+// Makes one job, runs it, and prints it where the two monitors differ.
 fn try_job(
-    rt: &HostRuntime,
+    rt: &(impl Print + AllocGlobal),
     random: &mut Random,
     number: u32,
     tally: &mut Tally,
 ) -> io::Result<()> {
     let lines = make_lines(rt.alloc(), random, number)?;
-    let text = job_text(rt, random, lines.as_slice())?;
-    let bytes = text.as_bytes();
-    let printed = run_job(rt.alloc(), bytes)?;
-    if bytes.len() > MOST_BYTES {
-        tally.add_long();
-        let expected = "refused 0 24\n";
-        return compare(rt, number, text.as_str(), expected, printed.as_str(), tally);
-    }
+    let job = job_text(rt.alloc(), random, lines.as_slice())?;
+    let printed = run_job(rt.alloc(), job.as_bytes())?;
     let mut witness = Witness::new(rt.alloc());
-    for line in lines.as_slice() {
-        witness.follow(rt.alloc(), *line)?;
-    }
-    tally.add(&witness);
-    compare(
-        rt,
-        number,
-        text.as_str(),
-        witness.text(),
-        printed.as_str(),
-        tally,
-    )
-}
-
-// Prints a job on which they differ.
-fn compare(
-    rt: &HostRuntime,
-    number: u32,
-    job: &str,
-    expected: &str,
-    printed: &str,
-    tally: &mut Tally,
-) -> io::Result<()> {
-    if printed == expected {
+    let expected = if job.len() > MOST_BYTES {
+        tally.long = tally.long.saturating_add(1);
+        "refused 0 24\n"
+    } else {
+        for line in lines.as_slice() {
+            witness.follow(rt.alloc(), *line)?;
+        }
+        tally.add(&witness)?;
+        witness.text()
+    };
+    if printed.as_str() == expected {
         return Ok(());
     }
-    tally.add_difference();
+    tally.differ = tally.differ.saturating_add(1);
     println!(rt; "job {number} differs:\n{job}")?;
     println!(rt; "the second monitor says:\n{expected}")?;
     println!(rt; "it prints:\n{printed}")
 }
 
 fn main(rt: HostRuntime) -> io::Result<()> {
-    let mut seed = 1u64;
-    let mut count = 1_000u32;
-    for (i, word) in env::args(&rt)?.skip(1).enumerate() {
-        if i == 0 {
-            if let Ok(given) = word.as_str().parse::<u64>() {
-                seed = given;
-            }
-        } else if let Ok(given) = word.as_str().parse::<u32>() {
-            count = given;
-        }
-    }
+    let mut args = env::args(&rt)?.skip(1);
+    let seed = args
+        .next()
+        .and_then(|word| word.as_str().parse::<u64>().ok())
+        .unwrap_or(1);
+    let count = args
+        .next()
+        .and_then(|word| word.as_str().parse::<u32>().ok())
+        .unwrap_or(1_000);
     let mut random = Random::new(seed);
-    let mut tally = Tally::new();
+    let mut tally = Tally::new(rt.alloc());
     for number in 0..count {
         try_job(&rt, &mut random, number, &mut tally)?;
     }
     println!(rt; "{count} jobs from seed {seed}")?;
-    tally.print(&rt)
+    println!(rt; "{tally}")
 }

@@ -1,8 +1,10 @@
 // Making the lines of a job.
 use crate::random::Random;
-use network::Pipe;
-use plain::{Letter, Line};
-use plan::{Row, Statement};
+use command::{Command, MeasureName, SheetKind};
+use network::{Distances, Pipe};
+use plain::{Line, Misread};
+use plan::{Row, Size, Statement, Window};
+use reading::Entry;
 use std::alloc::{AllocError, Global};
 
 // Sizes, limits and distances at their edges and in between.
@@ -16,6 +18,14 @@ const EDGES: [i32; 8] = [
     -1_000_000, 1_000_000, -999_999, 999_999, 1_000_001, -1_000_001, 9_999_999, -9_999_999,
 ];
 
+fn plan_size(places: u32, steps: u32, channels: u32) -> Size {
+    Size {
+        places,
+        steps,
+        channels,
+    }
+}
+
 fn level(random: &mut Random) -> i32 {
     if random.one_in(12) {
         random.of(&EDGES)
@@ -24,46 +34,38 @@ fn level(random: &mut Random) -> i32 {
     }
 }
 
-fn some_pipe(random: &mut Random, places: u32, steps: u32) -> Pipe {
-    let first = random.below(steps);
+fn some_pipe(random: &mut Random, size: Size) -> Pipe {
+    let first = random.below(size.steps);
     Pipe {
-        from: random.below(places),
-        to: random.below(places),
-        length: random.of_naturals(&LENGTHS),
-        drop: random.of_naturals(&LENGTHS),
+        from: random.below(size.places),
+        to: random.below(size.places),
+        length: random.of(&LENGTHS),
+        drop: random.of(&LENGTHS),
         first,
-        last: first.saturating_add(random.below(steps.saturating_sub(first))),
+        last: first.saturating_add(random.below(size.steps.saturating_sub(first))),
     }
 }
 
 // A pipe that is refused, but for luck.
-fn odd_pipe(random: &mut Random, places: u32, steps: u32) -> Pipe {
-    let mut pipe = some_pipe(random, places, steps);
+fn odd_pipe(random: &mut Random, size: Size) -> Pipe {
+    let mut pipe = some_pipe(random, size);
     match random.below(7) {
-        0 => pipe.from = places,
-        1 => pipe.to = places.saturating_add(random.below(9)),
-        2 => pipe.last = steps,
+        0 => pipe.from = size.places,
+        1 => pipe.to = size.places.saturating_add(random.below(9)),
+        2 => pipe.last = size.steps,
         3 => pipe.length = 1_001,
         4 => {
-            pipe.first = steps.saturating_sub(1);
+            pipe.first = size.steps.saturating_sub(1);
             pipe.last = 0;
         }
         5 => {
-            pipe.to = places;
-            pipe.last = steps;
+            pipe.to = size.places;
+            pipe.last = size.steps;
             pipe.drop = 1_001;
         }
-        _ => pipe.drop = random.of_naturals(&[1_000, 1_001, 9_999_999]),
+        _ => pipe.drop = random.of(&[1_000, 1_001, 9_999_999]),
     }
     pipe
-}
-
-fn upper(random: &mut Random, from: u32) -> Option<u32> {
-    if random.one_in(3) {
-        None
-    } else {
-        Some(from.saturating_add(distance(random)).min(130))
-    }
 }
 
 // A distance, most often a small one or one at the limit.
@@ -71,16 +73,31 @@ fn distance(random: &mut Random) -> u32 {
     if random.one_in(6) {
         random.below(129)
     } else {
-        random.of_naturals(&DISTANCES)
+        random.of(&DISTANCES)
     }
 }
 
-// A number of steps.
-fn wait(random: &mut Random) -> u32 {
-    if random.one_in(6) {
+fn some_distances(random: &mut Random) -> Distances {
+    let from = distance(random);
+    let upto = if random.one_in(3) {
+        None
+    } else {
+        Some(from.saturating_add(distance(random)).min(130))
+    };
+    Distances { from, upto }
+}
+
+fn some_window(random: &mut Random, hold: u32, goal: u32) -> Window {
+    let from = if random.one_in(6) {
         random.below(65)
     } else {
         random.below(3)
+    };
+    Window {
+        hold,
+        goal,
+        from,
+        upto: from.saturating_add(random.of(&[0, 1, 2, 61, 62, 63])),
     }
 }
 
@@ -104,208 +121,111 @@ fn some_statement(random: &mut Random, rows: u32, channels: u32) -> Statement {
             left: one,
             right: two,
         },
-        5 => {
-            let from = wait(random);
-            Statement::Until {
-                hold: one,
-                goal: two,
-                from,
-                upto: from.saturating_add(random.of_naturals(&[0, 1, 2, 61, 62, 63])),
-            }
-        }
-        6 => {
-            let from = wait(random);
-            Statement::Since {
-                hold: one,
-                goal: two,
-                from,
-                upto: from.saturating_add(random.of_naturals(&[0, 1, 2, 61, 62, 63])),
-            }
-        }
-        _ => {
-            let from = distance(random);
-            Statement::Reach {
-                through: one,
-                goal: two,
-                from,
-                upto: upper(random, from),
-            }
-        }
+        5 => Statement::Until(some_window(random, one, two)),
+        6 => Statement::Since(some_window(random, one, two)),
+        _ => Statement::Reach {
+            through: one,
+            goal: two,
+            distances: some_distances(random),
+        },
+    }
+}
+
+// Row 0 reached through itself.
+fn reach(from: u32, upto: Option<u32>) -> Statement {
+    Statement::Reach {
+        through: 0,
+        goal: 0,
+        distances: Distances { from, upto },
     }
 }
 
 // A row that is refused, but for luck.
 fn odd_row(random: &mut Random, rows: u32, channels: u32) -> Row {
-    match random.below(8) {
-        0 => Row::Unknown,
-        1 => Row::Known(Statement::Not {
-            row: random.of_naturals(&[rows, 9_999_999]),
-        }),
-        2 => Row::Known(Statement::AtLeast {
+    let statement = match random.below(8) {
+        0 => return None,
+        1 => Statement::Not {
+            row: random.of(&[rows, 9_999_999]),
+        },
+        2 => Statement::AtLeast {
             channel: channels,
             limit: 0,
-        }),
-        3 => Row::Known(Statement::AtLeast {
+        },
+        3 => Statement::AtLeast {
             channel: 0,
             limit: random.of(&EDGES),
-        }),
-        4 => Row::Known(Statement::Until {
+        },
+        4 => Statement::Until(Window {
             hold: 0,
             goal: 0,
             from: 2,
-            upto: random.of_naturals(&[1, 2, 63, 64]),
+            upto: random.of(&[1, 2, 63, 64]),
         }),
-        5 => Row::Known(Statement::Since {
+        5 => Statement::Since(Window {
             hold: 0,
             goal: rows,
             from: 3,
-            upto: random.of_naturals(&[2, 64]),
+            upto: random.of(&[2, 64]),
         }),
-        6 => Row::Known(Statement::Reach {
-            through: 0,
-            goal: 0,
-            from: random.of_naturals(&[3, 128]),
-            upto: if random.one_in(2) { None } else { Some(2) },
-        }),
-        _ => Row::Known(Statement::Reach {
-            through: 0,
-            goal: 0,
-            from: random.of_naturals(&[3, 127, 128]),
-            upto: Some(random.of_naturals(&[2, 127, 128])),
-        }),
-    }
+        6 => {
+            let from = random.of(&[3, 128]);
+            reach(from, if random.one_in(2) { None } else { Some(2) })
+        }
+        _ => {
+            let from = random.of(&[3, 127, 128]);
+            reach(from, Some(random.of(&[2, 127, 128])))
+        }
+    };
+    Some(statement)
 }
 
-fn some_letter(random: &mut Random) -> Letter {
+// A statement that is accepted where a row stands and channel 0 is one, but for want of room.
+fn good_statement(random: &mut Random) -> Statement {
     match random.below(4) {
-        0 => Letter::YesNo,
-        1 => Letter::Margin,
-        2 => Letter::YesNoSpan,
-        _ => Letter::MarginSpan,
-    }
-}
-
-fn some_sheet(random: &mut Random) -> Line {
-    Line::Draw {
-        letter: some_letter(random),
-        measure: random.below(3).saturating_add(1),
-    }
-}
-
-// Now and then a line that is misspelt or out of place, and does no harm where it is in place.
-fn stray(random: &mut Random, lines: &mut Vec<Line>) -> Result<(), AllocError> {
-    if !random.one_in(25) {
-        return Ok(());
-    }
-    let line = match random.below(7) {
-        0 => Line::NoLetter,
-        1 => Line::LayPipe(some_pipe(random, 1, 1)),
-        2 => Line::WriteRow(Row::Known(Statement::Yes)),
-        3 => Line::Open {
-            places: 33,
-            steps: 1,
-            channels: 1,
-        },
-        4 => some_sheet(random),
-        5 => Line::Enter {
+        0 => Statement::Not { row: 0 },
+        1 => Statement::And { left: 0, right: 0 },
+        2 => reach(random.below(4), None),
+        _ => Statement::AtLeast {
             channel: 0,
-            place: 0,
-            step: 0,
-            low: 1,
-            high: 1,
+            limit: random.of(&LEVELS),
         },
-        _ => Line::Misspelt,
+    }
+}
+
+fn some_sheet(random: &mut Random) -> Command {
+    Command::DrawSheet {
+        kind: random.of(&[
+            SheetKind::YesNo,
+            SheetKind::Margin,
+            SheetKind::YesNoSpan,
+            SheetKind::MarginSpan,
+        ]),
+        measure: random.of(&[MeasureName::Hops, MeasureName::Lengths, MeasureName::Drops]),
+    }
+}
+
+fn exact_entry(channel: u32, place: u32, step: u32, reading: i32) -> Entry {
+    Entry {
+        channel,
+        place,
+        step,
+        low: reading,
+        high: reading,
+    }
+}
+
+// A line that is misspelt or out of place, and does no harm where it is in place.
+fn stray_line(random: &mut Random) -> Line {
+    let command = match random.below(7) {
+        0 => return Err(Misread::NoLetter),
+        1 => Command::LayPipe(some_pipe(random, plan_size(1, 1, 1))),
+        2 => Command::WriteRow(Some(Statement::Yes)),
+        3 => Command::Open(plan_size(33, 1, 1)),
+        4 => some_sheet(random),
+        5 => Command::Enter(exact_entry(0, 0, 0, 1)),
+        _ => return Err(Misread::Misspelt),
     };
-    lines.push(line)?;
-    Ok(())
-}
-
-fn add_opening(
-    random: &mut Random,
-    lines: &mut Vec<Line>,
-    places: u32,
-    steps: u32,
-    channels: u32,
-) -> Result<(), AllocError> {
-    if random.one_in(15) {
-        lines.push(Line::Open {
-            places: random.of_naturals(&[0, 1, 33]),
-            steps: random.of_naturals(&[0, 65]),
-            channels: random.of_naturals(&[0, 1, 5]),
-        })?;
-    }
-    if random.one_in(40) {
-        lines.push(Line::Seal)?;
-    }
-    lines.push(Line::Open {
-        places,
-        steps,
-        channels,
-    })?;
-    Ok(())
-}
-
-fn add_pipes(
-    random: &mut Random,
-    lines: &mut Vec<Line>,
-    places: u32,
-    steps: u32,
-    most: u32,
-) -> Result<(), AllocError> {
-    for _ in 0..random.below(most) {
-        stray(random, lines)?;
-        let pipe = if random.one_in(15) {
-            odd_pipe(random, places, steps)
-        } else {
-            some_pipe(random, places, steps)
-        };
-        lines.push(Line::LayPipe(pipe))?;
-    }
-    Ok(())
-}
-
-fn add_rows(random: &mut Random, lines: &mut Vec<Line>, channels: u32) -> Result<(), AllocError> {
-    let mut rows = 0u32;
-    let count = if random.one_in(30) {
-        0
-    } else {
-        random.below(5).saturating_add(2)
-    };
-    for _ in 0..count {
-        stray(random, lines)?;
-        if random.one_in(15) {
-            lines.push(Line::WriteRow(odd_row(random, rows, channels)))?;
-        } else {
-            lines.push(Line::WriteRow(Row::Known(some_statement(random, rows, channels))))?;
-            rows = rows.saturating_add(1);
-        }
-    }
-    Ok(())
-}
-
-// An exact reading for each cell.
-fn add_exact_readings(
-    random: &mut Random,
-    lines: &mut Vec<Line>,
-    places: u32,
-    steps: u32,
-    channels: u32,
-) -> Result<(), AllocError> {
-    for channel in 0..channels {
-        for step in 0..steps {
-            for place in 0..places {
-                let reading = random.of(&LEVELS);
-                lines.push(Line::Enter {
-                    channel,
-                    place,
-                    step,
-                    low: reading,
-                    high: reading,
-                })?;
-            }
-        }
-    }
-    Ok(())
+    Ok(command)
 }
 
 // A number below the bound, and now and then the bound itself.
@@ -317,206 +237,262 @@ fn nearly_below(random: &mut Random, bound: u32) -> u32 {
     }
 }
 
-fn add_readings(
-    random: &mut Random,
-    lines: &mut Vec<Line>,
-    places: u32,
-    steps: u32,
-    channels: u32,
-) -> Result<(), AllocError> {
-    for _ in 0..random.below(8) {
-        stray(random, lines)?;
-        let low = level(random);
-        lines.push(Line::Enter {
-            channel: nearly_below(random, channels),
-            place: nearly_below(random, places),
-            step: nearly_below(random, steps),
-            low,
-            high: if random.one_in(3) {
-                level(random)
-            } else {
-                // a number has 7 digits at the most
-                low.saturating_add(random.of(&LEVELS))
-                    .clamp(-9_999_999, 9_999_999)
-            },
-        })?;
-    }
-    Ok(())
-}
-
-// A job on a plan of this size, with up to so many pipes.
-fn sized(
-    heap: Global,
-    random: &mut Random,
-    places: u32,
-    steps: u32,
-    channels: u32,
-    pipes: u32,
-) -> Result<Vec<Line>, AllocError> {
-    let mut lines = Vec::new(heap);
-    stray(random, &mut lines)?;
-    add_opening(random, &mut lines, places, steps, channels)?;
-    add_pipes(random, &mut lines, places, steps, pipes)?;
-    add_rows(random, &mut lines, channels)?;
-    lines.push(Line::Seal)?;
-    if random.one_in(20) {
-        lines.push(Line::Seal)?;
-    }
-    for _ in 0..random.below(2).saturating_add(1) {
-        add_readings(random, &mut lines, places, steps, channels)?;
-        lines.push(some_sheet(random))?;
-    }
-    if random.one_in(2) {
-        add_exact_readings(random, &mut lines, places, steps, channels)?;
-        lines.push(some_sheet(random))?;
-        lines.push(some_sheet(random))?;
-    }
-    stray(random, &mut lines)?;
-    Ok(lines)
-}
-
-// A job like any other: most are small.
-fn ordinary(heap: Global, random: &mut Random) -> Result<Vec<Line>, AllocError> {
-    if random.one_in(40) {
-        let places = random.below(6).saturating_add(5);
-        let steps = random.below(6).saturating_add(4);
-        let channels = random.below(4).saturating_add(1);
-        return sized(heap, random, places, steps, channels, 30);
-    }
-    if random.one_in(200) {
-        return sized(heap, random, 16, 2, 1, 60);
-    }
-    let places = random.below(4).saturating_add(1);
-    let steps = random.below(3).saturating_add(1);
-    let channels = random.below(2).saturating_add(1);
-    sized(heap, random, places, steps, channels, 8)
-}
-
-fn add_ending(random: &mut Random, lines: &mut Vec<Line>) -> Result<(), AllocError> {
-    lines.push(Line::Seal)?;
-    lines.push(some_sheet(random))?;
-    lines.push(Line::Draw {
-        letter: Letter::MarginSpan,
-        measure: 1,
-    })?;
-    Ok(())
-}
-
-// As many pipes as there may be, and some that are refused, with a row over them.
-fn many_pipes(heap: Global, random: &mut Random) -> Result<Vec<Line>, AllocError> {
-    let mut lines = Vec::new(heap);
-    add_opening(random, &mut lines, 6, 2, 1)?;
-    for _ in 0..257u32 {
-        lines.push(Line::LayPipe(some_pipe(random, 6, 2)))?;
-    }
-    lines.push(Line::LayPipe(odd_pipe(random, 6, 2)))?;
-    lines.push(Line::WriteRow(Row::Known(Statement::AtLeast {
-        channel: 0,
-        limit: 3,
-    })))?;
-    for _ in 0..2u32 {
-        lines.push(Line::WriteRow(Row::Known(some_statement(random, 1, 1))))?;
-    }
-    lines.push(Line::WriteRow(Row::Known(Statement::Reach {
-        through: 0,
-        goal: 0,
-        from: random.below(4),
-        upto: None,
-    })))?;
-    add_ending(random, &mut lines)?;
-    add_readings(random, &mut lines, 6, 2, 1)?;
-    lines.push(some_sheet(random))?;
-    Ok(lines)
-}
-
-// A statement that is accepted where a row stands and channel 0 is one, but for want of room.
-fn good_statement(random: &mut Random) -> Statement {
-    match random.below(4) {
-        0 => Statement::Not { row: 0 },
-        1 => Statement::And { left: 0, right: 0 },
-        2 => Statement::Reach {
-            through: 0,
-            goal: 0,
-            from: random.below(4),
-            upto: None,
-        },
-        _ => Statement::AtLeast {
-            channel: 0,
-            limit: random.of(&LEVELS),
-        },
-    }
-}
-
-// As many rows as there may be, and some that are refused.
-fn many_rows(heap: Global, random: &mut Random) -> Result<Vec<Line>, AllocError> {
-    let mut lines = Vec::new(heap);
-    add_opening(random, &mut lines, 2, 2, 1)?;
-    lines.push(Line::WriteRow(Row::Known(Statement::Yes)))?;
-    for _ in 0..32u32 {
-        lines.push(Line::WriteRow(Row::Known(good_statement(random))))?;
-    }
-    for _ in 0..3u32 {
-        lines.push(Line::WriteRow(odd_row(random, 32, 1)))?;
-    }
-    add_ending(random, &mut lines)?;
-    Ok(lines)
-}
-
-// A plan of a size at some limit, with few rows.
-fn at_a_limit(
-    heap: Global,
-    random: &mut Random,
-    places: u32,
-    steps: u32,
-    rows: u32,
-) -> Result<Vec<Line>, AllocError> {
-    let mut lines = Vec::new(heap);
-    add_opening(random, &mut lines, places, steps, 1)?;
-    for row in 0..rows {
-        lines.push(Line::WriteRow(Row::Known(some_statement(random, row, 1))))?;
-    }
-    add_ending(random, &mut lines)?;
-    Ok(lines)
-}
-
-// More bytes than a job may have.
-fn too_long(heap: Global) -> Result<Vec<Line>, AllocError> {
-    let mut lines = Vec::new(heap);
-    for _ in 0..4_100u32 {
-        lines.push(Line::Seal)?;
-    }
-    Ok(lines)
-}
-
-fn entry_at(random: &mut Random, low: i32, high: i32) -> Line {
-    Line::Enter {
-        channel: 0,
-        place: random.below(2),
-        step: random.below(2),
+fn some_entry(random: &mut Random, size: Size) -> Entry {
+    let low = level(random);
+    Entry {
+        channel: nearly_below(random, size.channels),
+        place: nearly_below(random, size.places),
+        step: nearly_below(random, size.steps),
         low,
-        high,
+        high: if random.one_in(3) {
+            level(random)
+        } else {
+            // a number has 7 digits at the most
+            low.saturating_add(random.of(&LEVELS))
+                .clamp(-9_999_999, 9_999_999)
+        },
     }
 }
 
-// Entries with their ends just at the limits of readings, and just beyond.
-fn ends_of_entries(heap: Global, random: &mut Random) -> Result<Vec<Line>, AllocError> {
-    let mut lines = Vec::new(heap);
-    add_opening(random, &mut lines, 2, 2, 1)?;
-    lines.push(Line::WriteRow(Row::Known(Statement::AtLeast {
-        channel: 0,
-        limit: 0,
-    })))?;
-    lines.push(Line::Seal)?;
-    lines.push(entry_at(random, 0, 1_000_000))?;
-    lines.push(entry_at(random, 0, 1_000_001))?;
-    lines.push(entry_at(random, -1_000_000, 0))?;
-    lines.push(entry_at(random, -1_000_001, 0))?;
-    lines.push(some_sheet(random))?;
-    lines.push(Line::Draw {
-        letter: Letter::MarginSpan,
-        measure: 1,
-    })?;
-    Ok(lines)
+// A job in the making.
+#[derive(Drop)]
+struct Making<'a> {
+    random: &'a mut Random,
+    lines: Vec<Line>,
+}
+
+impl Making<'_> {
+    fn add(&mut self, command: Command) -> Result<(), AllocError> {
+        self.lines.push(Ok(command))?;
+        Ok(())
+    }
+
+    fn add_row(&mut self, statement: Statement) -> Result<(), AllocError> {
+        self.add(Command::WriteRow(Some(statement)))
+    }
+
+    fn add_sheet(&mut self) -> Result<(), AllocError> {
+        let sheet = some_sheet(self.random);
+        self.add(sheet)
+    }
+
+    // Now and then a stray line.
+    fn add_stray(&mut self) -> Result<(), AllocError> {
+        if self.random.one_in(25) {
+            self.lines.push(stray_line(self.random))?;
+        }
+        Ok(())
+    }
+
+    fn add_opening(&mut self, size: Size) -> Result<(), AllocError> {
+        if self.random.one_in(15) {
+            let odd = plan_size(
+                self.random.of(&[0, 1, 33]),
+                self.random.of(&[0, 65]),
+                self.random.of(&[0, 1, 5]),
+            );
+            self.add(Command::Open(odd))?;
+        }
+        if self.random.one_in(40) {
+            self.add(Command::Seal)?;
+        }
+        self.add(Command::Open(size))
+    }
+
+    // Fewer than so many pipes.
+    fn add_pipes(&mut self, size: Size, most: u32) -> Result<(), AllocError> {
+        for _ in 0..self.random.below(most) {
+            self.add_stray()?;
+            let pipe = if self.random.one_in(15) {
+                odd_pipe(self.random, size)
+            } else {
+                some_pipe(self.random, size)
+            };
+            self.add(Command::LayPipe(pipe))?;
+        }
+        Ok(())
+    }
+
+    fn add_rows(&mut self, channels: u32) -> Result<(), AllocError> {
+        let mut rows = 0u32;
+        let count = if self.random.one_in(30) {
+            0
+        } else {
+            self.random.below(5).saturating_add(2)
+        };
+        for _ in 0..count {
+            self.add_stray()?;
+            let row = if self.random.one_in(15) {
+                odd_row(self.random, rows, channels)
+            } else {
+                let statement = some_statement(self.random, rows, channels);
+                rows = rows.saturating_add(1);
+                Some(statement)
+            };
+            self.add(Command::WriteRow(row))?;
+        }
+        Ok(())
+    }
+
+    // An exact reading for each cell.
+    fn add_exact_readings(&mut self, size: Size) -> Result<(), AllocError> {
+        for channel in 0..size.channels {
+            for step in 0..size.steps {
+                for place in 0..size.places {
+                    let reading = self.random.of(&LEVELS);
+                    self.add(Command::Enter(exact_entry(channel, place, step, reading)))?;
+                }
+            }
+        }
+        Ok(())
+    }
+
+    fn add_readings(&mut self, size: Size) -> Result<(), AllocError> {
+        for _ in 0..self.random.below(8) {
+            self.add_stray()?;
+            let entry = some_entry(self.random, size);
+            self.add(Command::Enter(entry))?;
+        }
+        Ok(())
+    }
+
+    fn add_ending(&mut self) -> Result<(), AllocError> {
+        self.add(Command::Seal)?;
+        self.add_sheet()?;
+        self.add_span_sheet()
+    }
+
+    // A sheet that takes any readings.
+    fn add_span_sheet(&mut self) -> Result<(), AllocError> {
+        self.add(Command::DrawSheet {
+            kind: SheetKind::MarginSpan,
+            measure: MeasureName::Hops,
+        })
+    }
+
+    // A job on a plan of this size, with fewer than so many pipes.
+    fn sized(&mut self, size: Size, pipes: u32) -> Result<(), AllocError> {
+        self.add_stray()?;
+        self.add_opening(size)?;
+        self.add_pipes(size, pipes)?;
+        self.add_rows(size.channels)?;
+        self.add(Command::Seal)?;
+        if self.random.one_in(20) {
+            self.add(Command::Seal)?;
+        }
+        for _ in 0..self.random.below(2).saturating_add(1) {
+            self.add_readings(size)?;
+            self.add_sheet()?;
+        }
+        if self.random.one_in(2) {
+            self.add_exact_readings(size)?;
+            self.add_sheet()?;
+            self.add_sheet()?;
+        }
+        self.add_stray()
+    }
+
+    // A job like any other: most are small.
+    fn ordinary(&mut self) -> Result<(), AllocError> {
+        if self.random.one_in(40) {
+            let places = self.random.below(6).saturating_add(5);
+            let steps = self.random.below(6).saturating_add(4);
+            let channels = self.random.below(4).saturating_add(1);
+            return self.sized(plan_size(places, steps, channels), 30);
+        }
+        if self.random.one_in(200) {
+            return self.sized(plan_size(16, 2, 1), 60);
+        }
+        let places = self.random.below(4).saturating_add(1);
+        let steps = self.random.below(3).saturating_add(1);
+        let channels = self.random.below(2).saturating_add(1);
+        self.sized(plan_size(places, steps, channels), 8)
+    }
+
+    // As many pipes as there may be, and some that are refused, with a row over them.
+    fn many_pipes(&mut self) -> Result<(), AllocError> {
+        let size = plan_size(6, 2, 1);
+        self.add_opening(size)?;
+        for _ in 0..257u32 {
+            let pipe = some_pipe(self.random, size);
+            self.add(Command::LayPipe(pipe))?;
+        }
+        let pipe = odd_pipe(self.random, size);
+        self.add(Command::LayPipe(pipe))?;
+        self.add_row(Statement::AtLeast {
+            channel: 0,
+            limit: 3,
+        })?;
+        for _ in 0..2u32 {
+            let statement = some_statement(self.random, 1, 1);
+            self.add_row(statement)?;
+        }
+        let from = self.random.below(4);
+        self.add_row(reach(from, None))?;
+        self.add_ending()?;
+        self.add_readings(size)?;
+        self.add_sheet()
+    }
+
+    // As many rows as there may be, and some that are refused.
+    fn many_rows(&mut self) -> Result<(), AllocError> {
+        self.add_opening(plan_size(2, 2, 1))?;
+        self.add_row(Statement::Yes)?;
+        for _ in 0..32u32 {
+            let statement = good_statement(self.random);
+            self.add_row(statement)?;
+        }
+        for _ in 0..3u32 {
+            let row = odd_row(self.random, 32, 1);
+            self.add(Command::WriteRow(row))?;
+        }
+        self.add_ending()
+    }
+
+    // A plan of a size at some limit, with few rows.
+    fn at_a_limit(&mut self, places: u32, steps: u32, rows: u32) -> Result<(), AllocError> {
+        self.add_opening(plan_size(places, steps, 1))?;
+        for row in 0..rows {
+            let statement = some_statement(self.random, row, 1);
+            self.add_row(statement)?;
+        }
+        self.add_ending()
+    }
+
+    // More bytes than a job may have.
+    fn too_long(&mut self) -> Result<(), AllocError> {
+        for _ in 0..4_100u32 {
+            self.add(Command::Seal)?;
+        }
+        Ok(())
+    }
+
+    // Entries with their ends just at the limits of readings, and just beyond.
+    fn ends_of_entries(&mut self) -> Result<(), AllocError> {
+        self.add_opening(plan_size(2, 2, 1))?;
+        self.add_row(Statement::AtLeast {
+            channel: 0,
+            limit: 0,
+        })?;
+        self.add(Command::Seal)?;
+        for (low, high) in [
+            (0, 1_000_000),
+            (0, 1_000_001),
+            (-1_000_000, 0),
+            (-1_000_001, 0),
+        ] {
+            let entry = Entry {
+                channel: 0,
+                place: self.random.below(2),
+                step: self.random.below(2),
+                low,
+                high,
+            };
+            self.add(Command::Enter(entry))?;
+        }
+        self.add_sheet()?;
+        self.add_span_sheet()
+    }
 }
 
 // The job of a number: most are ordinary, and some are at a limit.
@@ -525,16 +501,21 @@ pub(crate) fn make_lines(
     random: &mut Random,
     number: u32,
 ) -> Result<Vec<Line>, AllocError> {
+    let mut job = Making {
+        random,
+        lines: Vec::new(heap),
+    };
     match number % 400 {
-        0 => ends_of_entries(heap, random),
-        7 => many_pipes(heap, random),
-        57 => too_long(heap),
-        77 => many_rows(heap, random),
-        107 => at_a_limit(heap, random, 32, 64, 1),
-        207 => at_a_limit(heap, random, 16, 64, 3),
-        257 => at_a_limit(heap, random, 16, 64, 2),
-        307 => at_a_limit(heap, random, 17, 2, 1),
-        357 => at_a_limit(heap, random, 17, 60, 3),
-        _ => ordinary(heap, random),
+        0 => job.ends_of_entries()?,
+        7 => job.many_pipes()?,
+        57 => job.too_long()?,
+        77 => job.many_rows()?,
+        107 => job.at_a_limit(32, 64, 1)?,
+        207 => job.at_a_limit(16, 64, 3)?,
+        257 => job.at_a_limit(16, 64, 2)?,
+        307 => job.at_a_limit(17, 2, 1)?,
+        357 => job.at_a_limit(17, 60, 3)?,
+        _ => job.ordinary()?,
     }
+    Ok(job.lines)
 }

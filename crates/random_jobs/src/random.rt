@@ -1,4 +1,5 @@
 // Random numbers that are the same for the same seed.
+ghost use Rattle.std.specs.Prelude.{◌<◌};
 
 #[derive(Drop)]
 pub(crate) struct Random {
@@ -35,15 +36,10 @@ impl Random {
         self.below(times) == 0
     }
 
-    // One of the numbers given.
-    pub(crate) fn of(&mut self, numbers: &[i32]) -> i32 {
-        let at = self.below((numbers.len() % 1_000) as u32) as usize;
-        numbers.get(at).copied().unwrap_or(0)
-    }
-
-    // One of the numbers given, which are not negative.
-    pub(crate) fn of_naturals(&mut self, numbers: &[u32]) -> u32 {
-        let at = self.below((numbers.len() % 1_000) as u32) as usize;
-        numbers.get(at).copied().unwrap_or(0)
+    // One of the values given.
+    pub(crate) fn of<T: Copy, const N: usize>(&mut self, values: &[T; N]) -> T
+        requires { 0 < N }
+    {
+        values[(self.next() % N as u64) as usize]
     }
 }

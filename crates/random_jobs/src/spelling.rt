@@ -1,8 +1,11 @@
 // Lines as text.
 use crate::random::Random;
-use plain::{Letter, Line};
-use plan::{Row, Statement};
-use std::alloc::{AllocError, Global};
+use command::{Command, MeasureName, SheetKind};
+use network::{Distances, Pipe};
+use plain::{Line, Misread};
+use plan::{Size, Statement, Window};
+use reading::Entry;
+use std::alloc::AllocError;
 
 // Lines that begin with a letter of a job, and are misspelt.
 const MISSPELT: [&str; 35] = [
@@ -70,104 +73,109 @@ const UNKNOWN: [&str; 8] = [
     "R 10 1 1 1 1 1 1 1 1 1 1 1 1 1 1 1 1 1 1 1 1 1 1 1 1 1 1 1 1 1 1 1 1 1 1 1 1 1 1",
 ];
 
-fn upper(heap: Global, upto: Option<u32>) -> Result<String, AllocError> {
-    match upto {
-        Some(most) => format!(in heap; "{most}"),
-        None => String::from_str(heap, "-"),
+fn letter(kind: SheetKind) -> &'static str {
+    match kind {
+        SheetKind::YesNo => "y",
+        SheetKind::Margin => "m",
+        SheetKind::YesNoSpan => "Y",
+        SheetKind::MarginSpan => "M",
     }
 }
 
-fn statement_text(heap: Global, statement: Statement) -> Result<String, AllocError> {
+fn number(measure: MeasureName) -> u32 {
+    match measure {
+        MeasureName::Hops => 1,
+        MeasureName::Lengths => 2,
+        MeasureName::Drops => 3,
+    }
+}
+
+fn spell_window(code: u32, window: Window, out: &mut String) -> Result<(), AllocError> {
+    let Window {
+        hold,
+        goal,
+        from,
+        upto,
+    } = window;
+    write!(out, "R {code} {hold} {goal} {from} {upto}")
+}
+
+fn spell_row(statement: Statement, out: &mut String) -> Result<(), AllocError> {
     match statement {
-        Statement::AtLeast { channel, limit } => format!(in heap; "R 1 {channel} {limit}"),
-        Statement::Not { row } => format!(in heap; "R 2 {row}"),
-        Statement::And { left, right } => format!(in heap; "R 3 {left} {right}"),
-        Statement::Or { left, right } => format!(in heap; "R 4 {left} {right}"),
-        Statement::Until {
-            hold,
-            goal,
-            from,
-            upto,
-        } => format!(in heap; "R 5 {hold} {goal} {from} {upto}"),
-        Statement::Since {
-            hold,
-            goal,
-            from,
-            upto,
-        } => format!(in heap; "R 6 {hold} {goal} {from} {upto}"),
+        Statement::AtLeast { channel, limit } => write!(out, "R 1 {channel} {limit}"),
+        Statement::Not { row } => write!(out, "R 2 {row}"),
+        Statement::And { left, right } => write!(out, "R 3 {left} {right}"),
+        Statement::Or { left, right } => write!(out, "R 4 {left} {right}"),
+        Statement::Until(window) => spell_window(5, window, out),
+        Statement::Since(window) => spell_window(6, window, out),
         Statement::Reach {
             through,
             goal,
-            from,
-            upto,
-        } => {
-            let end = upper(heap, upto)?;
-            format!(in heap; "R 7 {through} {goal} {from} {end}")
-        }
-        Statement::Yes => String::from_str(heap, "R 9"),
+            distances: Distances { from, upto },
+        } => match upto {
+            Some(most) => write!(out, "R 7 {through} {goal} {from} {most}"),
+            None => write!(out, "R 7 {through} {goal} {from} -"),
+        },
+        Statement::Yes => out.push_str("R 9"),
     }
 }
 
-fn letter_text(letter: Letter) -> &'static str {
-    match letter {
-        Letter::YesNo => "y",
-        Letter::Margin => "m",
-        Letter::YesNoSpan => "Y",
-        Letter::MarginSpan => "M",
-    }
+fn spell_size(size: Size, out: &mut String) -> Result<(), AllocError> {
+    let Size {
+        places,
+        steps,
+        channels,
+    } = size;
+    write!(out, "O {places} {steps} {channels}")
 }
 
-fn one_of(random: &mut Random, texts: &[&'static str]) -> &'static str {
-    let at = random.below((texts.len() % 1_000) as u32) as usize;
-    match texts.get(at) {
-        Some(text) => *text,
-        None => "",
-    }
+fn spell_pipe(pipe: Pipe, out: &mut String) -> Result<(), AllocError> {
+    let Pipe {
+        from,
+        to,
+        length,
+        drop,
+        first,
+        last,
+    } = pipe;
+    write!(out, "P {from} {to} {length} {drop} {first} {last}")
 }
 
-fn line_text(heap: Global, random: &mut Random, line: Line) -> Result<String, AllocError> {
-    match line {
-        Line::Open {
-            places,
-            steps,
-            channels,
-        } => format!(in heap; "O {places} {steps} {channels}"),
-        Line::LayPipe(pipe) => {
-            let from = pipe.from;
-            let to = pipe.to;
-            let length = pipe.length;
-            let drop = pipe.drop;
-            let first = pipe.first;
-            let last = pipe.last;
-            format!(in heap; "P {from} {to} {length} {drop} {first} {last}")
+fn spell_entry(entry: Entry, out: &mut String) -> Result<(), AllocError> {
+    let Entry {
+        channel,
+        place,
+        step,
+        low,
+        high,
+    } = entry;
+    write!(out, "E {channel} {place} {step} {low} {high}")
+}
+
+fn spell_command(
+    random: &mut Random,
+    command: Command,
+    out: &mut String,
+) -> Result<(), AllocError> {
+    match command {
+        Command::Open(size) => spell_size(size, out),
+        Command::LayPipe(pipe) => spell_pipe(pipe, out),
+        Command::WriteRow(Some(statement)) => spell_row(statement, out),
+        Command::WriteRow(None) => out.push_str(random.of(&UNKNOWN)),
+        Command::Seal => out.push_str("S"),
+        Command::Enter(entry) => spell_entry(entry, out),
+        Command::DrawSheet { kind, measure } => {
+            write!(out, "{} {}", letter(kind), number(measure))
         }
-        Line::WriteRow(Row::Known(statement)) => statement_text(heap, statement),
-        Line::WriteRow(Row::Unknown) => String::from_str(heap, one_of(random, &UNKNOWN)),
-        Line::Seal => String::from_str(heap, "S"),
-        Line::Enter {
-            channel,
-            place,
-            step,
-            low,
-            high,
-        } => format!(in heap; "E {channel} {place} {step} {low} {high}"),
-        Line::Draw { letter, measure } => {
-            let sign = letter_text(letter);
-            format!(in heap; "{sign} {measure}")
-        }
-        Line::Misspelt => String::from_str(heap, one_of(random, &MISSPELT)),
-        Line::NoLetter => String::from_str(heap, one_of(random, &NO_LETTER)),
     }
 }
 
 // Adds a line, and the line feed that ends it.
-pub(crate) fn spell(
-    heap: Global,
-    random: &mut Random,
-    line: Line,
-    out: &mut String,
-) -> Result<(), AllocError> {
-    let text = line_text(heap, random, line)?;
-    out.push_str(text.as_str())?;
+pub(crate) fn spell(random: &mut Random, line: Line, out: &mut String) -> Result<(), AllocError> {
+    match line {
+        Ok(command) => spell_command(random, command, out)?,
+        Err(Misread::Misspelt) => out.push_str(random.of(&MISSPELT))?,
+        Err(Misread::NoLetter) => out.push_str(random.of(&NO_LETTER))?,
+    }
     out.push_str("\n")
 }

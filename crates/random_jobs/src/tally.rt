@@ -1,29 +1,23 @@
 // Counts of what came up.
 use plain::Witness;
-use std::io;
+use std::alloc::{AllocError, Global};
+use std::collections::BTreeMap;
+use std::fmt;
 
+#[derive(Drop)]
 pub(crate) struct Tally {
-    refusals: [u64; 26],
+    // how often each refusal came, by its number
+    refusals: BTreeMap<u8, u64>,
     sheets: u64,
-    long: u64,
-    differ: u64,
-}
-
-impl Drop for Tally {
-    fn drop(self) {
-        let Tally {
-            refusals: _,
-            sheets: _,
-            long: _,
-            differ: _,
-        } = self;
-    }
+    // how many jobs were too long to be run, and on how many the two monitors differed
+    pub(crate) long: u64,
+    pub(crate) differ: u64,
 }
 
 impl Tally {
-    pub(crate) fn new() -> Tally {
+    pub(crate) fn new(heap: Global) -> Tally {
         Tally {
-            refusals: [0; 26],
+            refusals: BTreeMap::new(heap),
             sheets: 0,
             long: 0,
             differ: 0,
@@ -31,36 +25,29 @@ impl Tally {
     }
 
     // What a job came to.
-    pub(crate) fn add(&mut self, witness: &Witness) {
-        self.sheets = self.sheets.saturating_add(witness.sheets() as u64);
-        for number in 0..26usize {
-            self.refusals[number] = self.refusals[number].saturating_add(
-                witness.refusals(number) as u64,
-            );
+    pub(crate) fn add(&mut self, witness: &Witness) -> Result<(), AllocError> {
+        self.sheets = self.sheets.saturating_add(u64::from(witness.sheets()));
+        for (number, times) in witness.refusals() {
+            let sum = self.refusals.entry(*number)?.or_insert(0);
+            *sum = sum.saturating_add(u64::from(*times));
         }
+        Ok(())
     }
+}
 
-    // A job that is too long to be run.
-    pub(crate) fn add_long(&mut self) {
-        self.long = self.long.saturating_add(1);
-    }
-
-    pub(crate) fn add_difference(&mut self) {
-        self.differ = self.differ.saturating_add(1);
-    }
-
-    pub(crate) fn print(&self, rt: &HostRuntime) -> io::Result<()> {
-        let sheets = self.sheets;
-        let long = self.long;
-        println!(rt; "sheets: {sheets}")?;
-        for number in 0..26usize {
-            let times = self.refusals[number];
-            if times > 0 {
-                println!(rt; "refused {number}: {times}")?;
-            }
+impl fmt::Display for Tally {
+    fn fmt<W: fmt::Write>(&self, f: &mut fmt::Formatter<W>) -> fmt::Result {
+        let Tally {
+            refusals,
+            sheets,
+            long,
+            differ,
+        } = self;
+        writeln!(f, "sheets: {sheets}")?;
+        for (number, times) in refusals {
+            writeln!(f, "refused {number}: {times}")?;
         }
-        println!(rt; "too long to be run: {long}")?;
-        let differ = self.differ;
-        println!(rt; "differ: {differ}")
+        writeln!(f, "too long to be run: {long}")?;
+        write!(f, "differ: {differ}")
     }
 }

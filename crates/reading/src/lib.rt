@@ -1,7 +1,8 @@
 // Readings: what is known of a level is a range.
 #![tactic(auto)]
 
+mod entry;
 mod range;
-mod ranges;
 
-pub use range::Range;
+pub use entry::Entry;
+pub use range::{HIGHEST, LOWEST, Range};

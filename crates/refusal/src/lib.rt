@@ -2,7 +2,7 @@
 #![tactic(auto)]
 
 ghost use Rattle.std.specs.Prelude.{◌≡◌};
-ghost use Rattle.refusal.specs.Numbers.{number as number_of};
+ghost use Rattle.refusal.specs.Numbers.{number};
 
 // Why a call was refused. A refused call changes nothing.
 #[derive(Clone, Copy, PartialEq, Eq, Debug)]
@@ -47,18 +47,18 @@ pub enum Refusal {
     NotExact { cell: usize },
     // a job's line is empty, or begins with none of the letters
     NoLetter,
-    // a job's line is too long, or is not its letter and the numbers that go with it
+    // a job's line is too long, or is not its letter and the numbers that go with it; or the job is too long
     Misspelt,
     // a job's line comes where its letter has no place
     OutOfPlace,
 }
 
-impl Refusal {
-    // The number that a job prints.
-    pub fn number(self) -> u8
-        ensures { result ≡ number_of self }
-    {
-        match self {
+// The number that a job prints.
+impl From<Refusal> for u8 {
+    ghost from_gives = { λ refusal result. result ≡ number refusal };
+
+    fn from(refusal: Refusal) -> u8 {
+        match refusal {
             Refusal::OutsideLimits => 1,
             Refusal::NoSuchPlace => 2,
             Refusal::NoSuchStep => 3,

@@ -1,2 +1,3 @@
 -- What is printed of refusals and sheets.
 pub mod Texts
+pub mod Printouts

@@ -1,6 +1,7 @@
 // Reports: refusals and sheets as text.
 #![tactic(auto)]
 
-mod sheets;
+mod block;
+mod printout;
 
-pub use sheets::{report_sheet, write_refusal};
+pub use printout::Printout;

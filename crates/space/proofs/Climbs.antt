@@ -1,8 +1,9 @@
 -- Working through the levels gathers the routes: level k at p is made of the routes from p whose capped distance is k, and is at or above each of them.
-use Rattle.std.proofs.Common.{◌≡◌, ℕ, zero, suc, ◌+◌, ◌*◌, ◌/◌, ◌%◌, ◌<◌, ◌≤◌, min, Bool, true, false, cond, ◌&&◌, T, leb, List, [], ◌∷◌, length, set, fold, sym, refl, ap, ◌∙◌, subst, arith, le→leb, leb→le, length-set, get_or-set_other, get_or-set_same}
+use Rattle.std.proofs.Common.{◌≡◌, ℕ, zero, suc, ◌+◌, ◌*◌, ◌/◌, ◌%◌, ◌<◌, ◌≤◌, min, Bool, true, false, cond, List, [], ◌∷◌, length, set, fold, sym, refl, ap, ◌∙◌, subst, arith, length-set, get_or-set_other, get_or-set_same}
 use mathlib.Core.List.Memᴰ
 use mathlib.Core.List.{Memᴰ}
 use native.Mathlib.Decide.{ℕ_discrete, dec_le}
+use Rattle.std.proofs.lemmas.Bool.Decides.{nat_tests}
 use lib.Arith.{digits_div, digits_mod}
 use Rattle.network.specs.declared.pipe.Pipe.{Pipe}
 use Rattle.verdict.specs.Algebra.{Ops, Laws, Below}
@@ -18,20 +19,11 @@ use Rattle.space.proofs.Rooms.{inside}
 use Rattle.space.proofs.Cuts.{Cuttable, Reaches, reaches_none, reaches_more, reaches_all, joined_mem}
 
 -- the test and the fact
-pub stands_yes : (t : ℕ) (e : Pipe) → stands t e ≡ true → Stands t e
-stands_yes t e h = go (leb e.first t) (leb t e.last) refl refl h
-  where
-    go : (a b : Bool) → leb e.first t ≡ a → leb t e.last ≡ b → (a && b) ≡ true → Stands t e
-    go true true ea eb h = record { opened = leb→le _ _ (rw ea tt); closes = leb→le _ _ (rw eb tt) }
-    go true false ea eb h = absurd (let z : ◌≡◌ {A = ℕ} 0 1 = cc in omega arith)
-    go false b ea eb h = absurd (let z : ◌≡◌ {A = ℕ} 0 1 = cc in omega arith)
+stands_yes : (t : ℕ) (e : Pipe) → stands t e ≡ true → Stands t e
+stands_yes t e h = record { opened = grind (arith, nat_tests); closes = grind (arith, nat_tests) }
 
-T_true : (b : Bool) → T b → b ≡ true
-T_true true h = refl
-T_true false h = absurd h
-
-pub stands_so : (t : ℕ) (e : Pipe) → Stands t e → stands t e ≡ true
-stands_so t e h = rw (T_true _ (le→leb _ _ h.opened), T_true _ (le→leb _ _ h.closes))
+stands_so : (t : ℕ) (e : Pipe) → Stands t e → stands t e ≡ true
+stands_so t e h = grind (arith, nat_tests)
 
 module _ {x : Extend} (ms : Measures x) (top : ℕ) (small : top ≤ 65535) where
   -- the level of a route
@@ -87,9 +79,6 @@ module _ {V : Type 0} {o : Ops V} (ls : Laws o) {x : Extend} (ms : Measures x) (
   pushed_none : (d : ℕ) (xs : List V) → Pushed d [] xs xs
   pushed_none d xs = record { long = refl; grows = λ i. below_refl ls _; passes = λ e m h. absurd (Memᴰ.not-nil m); made = λ g. g }
 
-  made_at : {p q k h : ℕ} {v : V} → k ≡ h → p ≡ q → Made o (OnLevel q h) (worth q h) v → Made o (OnLevel p k) (worth p k) v
-  made_at {p} {q} {k} {h} {v} ek ep m = subst (λ p. Made o (OnLevel p k) (worth p k) v) (sym ep) (subst (λ k. Made o (OnLevel q k) (worth q k) v) (sym ek) m)
-
   made_back : (d : ℕ) (e : Pipe) → Memᴰ e pipes → Stands t e → {v : V} → Made o (OnLevel e.to d) (worth e.to d) v → Made o (OnLevel e.from (min (x d e) top)) (worth e.from (min (x d e) top)) (o.meet (val o through e.from) v)
   made_back d e m h = made_meet ls (val o through e.from) (λ r. one (record { over = e ∷ r.over; leads = (m, h, refl, r.leads); on = sym (level_more ms top small e r.over) ∙ ap (λ n. min (x n e) top) r.on }) refl)
 
@@ -103,7 +92,7 @@ module _ {V : Type 0} {o : Ops V} (ls : Laws o) {x : Extend} (ms : Measures x) (
       long = length-set _ _ _;
       grows = λ i. flat i (λ v. Below o (val o old i) v) (λ eq. rw eq (join_left ls _ _)) (below_refl ls _);
       passes = λ f k hf. rw (Memᴰ.eq_of_singleton k) (rw same (join_right ls _ _));
-      made = λ g k p hp. flat (k * places + p) (Made o (OnLevel p k) (worth p k)) (λ eq. let two = node_same _ _ _ _ _ hp (ends e m).near eq in made_at two.0 two.1 (both _ _ (g _ _ (ends e m).near) (made_back d e m h (g _ _ (ends e m).far)) refl)) (g k p hp);
+      made = λ g k p hp. flat (k * places + p) (Made o (OnLevel p k) (worth p k)) (λ eq. let two = node_same _ _ _ _ _ hp (ends e m).near eq in rw (two.0, two.1) (both _ _ (g _ _ (ends e m).near) (made_back d e m h (g _ _ (ends e m).far)) refl)) (g k p hp);
     }
       where
         here : ℕ
@@ -135,7 +124,7 @@ module _ {V : Type 0} {o : Ops V} (ls : Laws o) {x : Extend} (ms : Measures x) (
         go false eq = record {
           long = refl;
           grows = λ i. below_refl ls _;
-          passes = λ f k hf. absurd (let two : stands t e ≡ true = rw (Memᴰ.eq_of_singleton k) at (stands_so t f hf) in let z : ◌≡◌ {A = ℕ} 0 1 = cc in omega arith);
+          passes = λ f k hf. absurd (let two : stands t e ≡ true = rw (Memᴰ.eq_of_singleton k) at (stands_so t f hf) in cc);
           made = λ g. g;
         }
 
@@ -144,7 +133,7 @@ module _ {V : Type 0} {o : Ops V} (ls : Laws o) {x : Extend} (ms : Measures x) (
     pushed_more d e es {old} {mid} {new} a b = record {
       long = b.long ∙ a.long;
       grows = λ i. below_trans ls (a.grows i) (b.grows i);
-      passes = λ f m h. by f m h;
+      passes = by;
       made = λ g. b.made (a.made g);
     }
       where
@@ -157,7 +146,7 @@ module _ {V : Type 0} {o : Ops V} (ls : Laws o) {x : Extend} (ms : Measures x) (
     pushed_all d [] old room among = pushed_none d old
     pushed_all d (e ∷ es) old room among =
         let first = pushed_one d e old room (among e (Memᴰ.head refl)) in
-        pushed_more d e es first (pushed_all d es _ (subst Long (sym first.long) room) (λ f m. among f (Memᴰ.tail m)))
+        pushed_more d e es first (pushed_all d es _ (rw first.long room) (λ f m. among f (Memᴰ.tail m)))
 
     -- a pass
     pass : (d : ℕ) (old : List V) → Long (length old) → Pushed d pipes old (passed o through x t top pipes d old)
@@ -198,13 +187,11 @@ module _ {V : Type 0} {o : Ops V} (ls : Laws o) {x : Extend} (ms : Measures x) (
       }
         where
           brings : (p : ℕ) (e : Pipe) (π : List Pipe) → Leads (Keeps d) pipes p (e ∷ π) → Below o (value e.to π) (at o places mid d e.to) → Below o (value p (e ∷ π)) (at o places new d p)
-          brings p e π l h =
-              let given : Below o (o.meet (val o through e.from) (at o places mid d e.to)) (at o places new d e.from) = subst (λ k. Below o (o.meet (val o through e.from) (at o places mid d e.to)) (at o places new k e.from)) l.1.1 (a.passes e l.0 l.1.0) in
-              below_trans ls (meet_mono ls (below_refl ls _) h) (subst (λ p. Below o (o.meet (val o through p) (at o places mid d e.to)) (at o places new d p)) l.2 given)
+          brings p e π l h = below_trans ls (meet_mono ls (below_refl ls _) h) (rw (l.1.1, l.2) at (a.passes e l.0 l.1.0))
 
       passing : (n : ℕ) → Long (length old) → Passing n (passes o through x t top pipes d n old)
       passing zero room = passing_none
-      passing (suc n) room = let before = passing n room in passing_more n (pass d _ (subst Long (sym before.long) room)) before
+      passing (suc n) room = let before = passing n room in passing_more n (pass d _ (rw before.long room)) before
 
     -- the routes that are taken in once the levels below d are worked through
     abbrev Early : ℕ → List Pipe → Type 0
@@ -221,14 +208,14 @@ module _ {V : Type 0} {o : Ops V} (ls : Laws o) {x : Extend} (ms : Measures x) (
       less : Below o v (along o (val o through) (at o places xs d) p front)
 
     split : (d : ℕ) (xs : List V) → Done d xs → (p : ℕ) → p < places → (π : List Pipe) → Leads (Stands t) pipes p π → level ms top small π ≡ d → Front d xs p (along o (val o through) goal p π)
-    split d xs done p hp [] l on = record { front = []; leads = tt; less = subst (λ k. Below o (goal p) (at o places xs k p)) on (done p hp [] tt tt) }
+    split d xs done p hp [] l on = record { front = []; leads = tt; less = rw on at (done p hp [] tt tt) }
     split d xs done p hp (e ∷ π) l on = go (ℕ_discrete (level ms top small π) d) (split d xs done e.to (ends e l.0).far π l.3)
       where
         go : Dec (level ms top small π ≡ d) → (level ms top small π ≡ d → Front d xs e.to (along o (val o through) goal e.to π)) → Front d xs p (along o (val o through) goal p (e ∷ π))
         go (yes eq) rest =
             let f = rest eq in
             record { front = e ∷ f.front; leads = (l.0, (l.1, ap (λ k. min (x k e) top) (sym eq) ∙ level_more ms top small e π ∙ on), l.2, f.leads); less = meet_mono ls (below_refl ls _) f.less }
-        go (no ne) rest = record { front = []; leads = tt; less = subst (λ k. Below o (along o (val o through) goal p (e ∷ π)) (at o places xs k p)) on (done p hp (e ∷ π) l (omega (arith, level_rises ms top small e π))) }
+        go (no ne) rest = record { front = []; leads = tt; less = rw on at (done p hp (e ∷ π) l (omega (arith, level_rises ms top small e π))) }
 
     -- one level more
     done_more : (d : ℕ) (xs : List V) → Long (length xs) → Done d xs → Done (suc d) (passes o through x t top pipes d (suc places) xs)
@@ -245,14 +232,14 @@ module _ {V : Type 0} {o : Ops V} (ls : Laws o) {x : Extend} (ms : Measures x) (
         settled = passing d xs places room
 
         last : Pushed d pipes mid new
-        last = pass d mid (subst Long (sym settled.long) room)
+        last = pass d mid (rw settled.long room)
 
         go : Dec (level ms top small π ≡ d) → Below o (along o (val o through) goal p (e ∷ π)) (at o places new (level ms top small (e ∷ π)) p)
         go (yes eq) =
             let f = split d xs done e.to (ends e l.0).far π l.3 eq in
             let far : Below o (along o (val o through) goal e.to π) (at o places mid d e.to) = below_trans ls f.less (reaches_all (Keeps d) pipes (Below o) (value d xs) (cuttable d xs) places places (omega arith) joined (at o places mid d) settled.reaches e.to f.front f.leads) in
-            let given : Below o (o.meet (val o through e.from) (at o places mid d e.to)) (at o places new (level ms top small (e ∷ π)) e.from) = subst (λ k. Below o (o.meet (val o through e.from) (at o places mid d e.to)) (at o places new k e.from)) (ap (λ k. min (x k e) top) (sym eq) ∙ level_more ms top small e π) (last.passes e l.0 l.1) in
-            below_trans ls (meet_mono ls (below_refl ls _) far) (subst (λ p. Below o (o.meet (val o through p) (at o places mid d e.to)) (at o places new (level ms top small (e ∷ π)) p)) l.2 given)
+            let more : min (x d e) top ≡ level ms top small (e ∷ π) = ap (λ k. min (x k e) top) (sym eq) ∙ level_more ms top small e π in
+            rw (← l.2) (below_trans ls (meet_mono ls (below_refl ls _) far) (rw more at (last.passes e l.0 l.1)))
         go (no ne) = below_trans ls (done p hp (e ∷ π) l (omega arith)) ((passing d xs (suc places) room).grows _)
 
     -- how the levels start
@@ -269,8 +256,8 @@ module _ {V : Type 0} {o : Ops V} (ls : Laws o) {x : Extend} (ms : Measures x) (
     climbing_none : (xs : List V) → Starts xs → Climbing 0 xs
     climbing_none xs s = record {
       room = s.room;
-      made = λ k p hp. by k p hp;
-      done = λ p hp π l early. from p hp π l early;
+      made = by;
+      done = from;
     }
       where
         by : (k p : ℕ) → p < places → Made o (OnLevel p k) (worth p k) (at o places xs k p)
@@ -284,7 +271,7 @@ module _ {V : Type 0} {o : Ops V} (ls : Laws o) {x : Extend} (ms : Measures x) (
     climbing_more : (d : ℕ) (xs : List V) → Climbing d xs → Climbing (suc d) (passes o through x t top pipes d (suc places) xs)
     climbing_more d xs c =
         let p = passing d xs (suc places) c.room in
-        record { room = subst Long (sym p.long) c.room; made = p.made c.made; done = done_more d xs c.room c.done }
+        record { room = rw p.long c.room; made = p.made c.made; done = done_more d xs c.room c.done }
 
     climbing : (n : ℕ) (xs : List V) → Starts xs → Climbing n (climbed o through x t top pipes n xs)
     climbing zero xs s = climbing_none xs s
@@ -300,5 +287,5 @@ module _ {V : Type 0} {o : Ops V} (ls : Laws o) {x : Extend} (ms : Measures x) (
         let c = climbing n xs s in
         record {
           made = c.made k p hp;
-          above = λ r. subst (λ k. Below o (worth p _ r) (at o places (climbed o through x t top pipes n xs) k p)) r.on (c.done p hp r.over r.leads (early_on n r.over (let e = r.on in omega arith)));
+          above = λ r. rw r.on at (c.done p hp r.over r.leads (early_on n r.over (let e = r.on in omega arith)));
         }

@@ -3,6 +3,6 @@ pub mod Made
 pub mod Cuts
 mod Begun
 mod Rooms
-mod Turns
+mod Fronts
 mod Climbs
 pub mod Reaches

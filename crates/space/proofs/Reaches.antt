@@ -1,5 +1,5 @@
 -- Reach by levels is the least verdict at or above all routes in the interval.
-use Rattle.std.proofs.Common.{◌≡◌, ℕ, zero, suc, ◌+◌, ◌-◌, ◌*◌, ◌<◌, ◌≤◌, min, List, length, Some, None, Option, sym, refl, ◌∙◌, subst, suc-mul, zero-add, zero-mul, arith}
+use Rattle.std.proofs.Common.{◌≡◌, ℕ, zero, suc, ◌+◌, ◌-◌, ◌*◌, ◌<◌, ◌≤◌, min, List, length, Some, None, Option, sym, refl, ◌∙◌, suc-mul, zero-add, zero-mul, arith}
 use native.Mathlib.Decide.{dec_lt}
 use lib.ListN.{get_or-eq_default}
 use Rattle.network.specs.declared.pipe.Pipe.{Pipe}
@@ -42,12 +42,12 @@ module _ {V : Type 0} {o : Ops V} (ls : Laws o) where
     where
       go : Dec (i < n) → (i < n → Below o (at o places xs (low + i) p) (joined o places xs low n p)) → Below o (at o places xs (low + i) p) (joined o places xs low (suc n) p)
       go (yes k) rest = below_trans ls (rest k) (join_left ls _ _)
-      go (no k) rest = let same : i ≡ n = omega arith in subst (λ j. Below o (at o places xs (low + j) p) (joined o places xs low (suc n) p)) (sym same) (join_right ls _ _)
+      go (no k) rest = let same : i ≡ n = omega arith in rw same (join_right ls _ _)
 
   module _ {x : Extend} (ms : Measures x) (t : ℕ) (pipes : List Pipe) (through goal : List V) (pair : length goal ≡ length through) (between : Joined (length through) pipes) where
     pub starts : (top : ℕ) (small : top ≤ 65535) → Starts ls ms t top small pipes through (val o goal) between (begun o goal top)
     starts top small = record {
-      room = let long = begun_length o goal top in let more = one_more top (length goal) in subst (λ n. (top + 1) * n ≤ length (begun o goal top)) pair (omega arith);
+      room = let long = begun_length o goal top in let more = one_more top (length goal) in rw (sym pair) (omega arith);
       first = λ p hp. let e : 0 * length through + p ≡ p = rw (zero-mul, zero-add) in rw e (begun_at o goal top p);
       others = λ k p hp.
           let all : suc k * length through ≡ k * length through + length through = suc-mul k (length through) in

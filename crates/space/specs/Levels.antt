@@ -51,7 +51,7 @@ module _ {V : Type 0} (o : Ops V) where
         -- the levels below n, from level 0 up: on each as many passes as there are places, which settle it, and one more, which hands on what has settled
         abbrev pub climbed : ℕ → List V → List V
         climbed zero xs = xs
-        climbed (suc d) xs = passed d (passes d (length through) (climbed d xs))
+        climbed (suc d) xs = passes d (suc (length through)) (climbed d xs)
 
   -- the join of n levels, from level low on
   abbrev pub joined : (places : ℕ) → List V → ℕ → ℕ → ℕ → V

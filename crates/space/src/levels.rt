@@ -1,7 +1,7 @@
 // Levels of distance: one row of verdicts, a verdict for each place, for each level.
-ghost use Rattle.std.specs.Prelude.{◌≡◌, ℕ, suc, ◌+◌, ◌-◌, ◌*◌, ◌<◌, ◌≤◌, length};
+ghost use Rattle.std.specs.Prelude.{◌≡◌, ℕ, ◌+◌, ◌-◌, ◌*◌, ◌<◌, ◌≤◌, length};
 ghost use Rattle.network.specs.Routes.{Ends, Joined, stands};
-ghost use Rattle.space.specs.Levels.{val, at, begun, lifted, pushed, passed, passes, climbed, joined};
+ghost use Rattle.space.specs.Levels.{at, begun, lifted, pushed, climbed, joined};
 
 use network::{Measure, Pipe};
 use verdict::Kind;
@@ -10,7 +10,7 @@ use verdict::Kind;
 fn standing(pipe: &Pipe, step: u32) -> bool
     ensures { result ≡ stands step pipe.now }
 {
-    pipe.first <= step && step <= pipe.last
+    (pipe.first..=pipe.last).contains(&step)
 }
 
 // The verdict on a level at a place.
@@ -21,116 +21,16 @@ fn read<K: Kind>(levels: &[K], places: usize, level: usize, place: usize) -> K
     levels[level * places + place]
 }
 
-// The pipe's near end, on the level `high`, joins what its far end has on the level `low`.
-fn lift<K: Kind>(levels: &mut [K], through: &[K], pipe: &Pipe, low: usize, high: usize)
-    requires ends { Ends (length through.now) pipe.now }
-    requires near { high * length through.now + pipe.now.from < length levels.old }
-    requires far { low * length through.now + pipe.now.to < length levels.old }
-    ensures { levels.new ≡ lifted K.Kind.ops through.now low high levels.old pipe.now }
-{
-    let near = high * through.len() + pipe.from as usize;
-    let far = low * through.len() + pipe.to as usize;
-    let gain = through[pipe.from as usize].meet(levels[far]);
-    levels[near] = levels[near].join(gain);
-}
-
-// A pipe that stands lifts from a level to the one that it extends it to.
-fn push<K: Kind, M: Measure>(
-    levels: &mut [K],
-    through: &[K],
-    pipe: &Pipe,
-    step: u32,
-    level: u16,
-    top: u16,
-)
-    requires ends { Ends (length through.now) pipe.now }
-    requires room { (top + 1) * length through.now ≤ length levels.old }
-    requires level { level ≤ top }
-    ensures { levels.new ≡ pushed K.Kind.ops through.now M.Measure.extend step top level levels.old pipe.now }
-{
-    if standing(pipe, step) {
-        let high = M::extended(level, pipe).min(top);
-        lift(levels, through, pipe, level as usize, high as usize);
-    }
-}
-
-// Every pipe in turn.
-fn pass<K: Kind, M: Measure>(
-    levels: &mut [K],
-    through: &[K],
-    pipes: &[Pipe],
-    step: u32,
-    level: u16,
-    top: u16,
-)
-    requires joined { Joined (length through.now) pipes.now }
-    requires room { (top + 1) * length through.now ≤ length levels.old }
-    requires level { level ≤ top }
-    ensures { levels.new ≡ passed K.Kind.ops through.now M.Measure.extend step top pipes.now level levels.old }
-{
-    for pipe in pipes {
-        push::<K, M>(levels, through, pipe, step, level, top);
-    }
-}
-
-// A level settles after as many passes as there are places; one more hands on what has settled.
-fn rise<K: Kind, M: Measure>(
-    levels: &mut [K],
-    through: &[K],
-    pipes: &[Pipe],
-    step: u32,
-    level: u16,
-    top: u16,
-)
-    requires joined { Joined (length through.now) pipes.now }
-    requires room { (top + 1) * length through.now ≤ length levels.old }
-    requires level { level ≤ top }
-    ensures { levels.new ≡ passes K.Kind.ops through.now M.Measure.extend step top pipes.now level (suc (length through.now)) levels.old }
-{
-    for _ in 0..through.len() {
-        pass::<K, M>(levels, through, pipes, step, level, top);
-    }
-    pass::<K, M>(levels, through, pipes, step, level, top);
-}
-
-// The levels below `height`, from level 0 up.
-fn climb<K: Kind, M: Measure>(
-    levels: &mut [K],
-    through: &[K],
-    pipes: &[Pipe],
-    step: u32,
-    height: u16,
-    top: u16,
-)
-    requires joined { Joined (length through.now) pipes.now }
-    requires room { (top + 1) * length through.now ≤ length levels.old }
-    requires height { height ≤ top + 1 }
-    ensures { levels.new ≡ climbed K.Kind.ops through.now M.Measure.extend step top pipes.now height levels.old }
-{
-    for level in 0..height {
-        rise::<K, M>(levels, through, pipes, step, level, top);
-    }
-}
-
-// The verdict at a place, or bottom where there is none.
-fn at_or_bottom<K: Kind>(row: &[K], place: usize) -> K
-    ensures { result ≡ val K.Kind.ops row.now place }
-{
-    if place < row.len() {
-        row[place]
-    } else {
-        K::bottom()
-    }
-}
-
 // Level 0 is the goal, the others are bottom.
 fn begin<K: Kind>(levels: &mut [K], goal: &[K], top: u16)
     requires { length levels.old ≡ (top + 1) * length goal.now }
     ensures { levels.new ≡ begun K.Kind.ops goal.now top }
 {
-    for i in 0..levels.len() {
-        levels[i] = at_or_bottom(goal, i);
-    }
+    let bottom = K::bottom();
+    let (first, others) = levels.split_at_mut(goal.len());
+    first.copy_from_slice(goal);
+    // Not `fill`, which clones: a kind does not promise that a clone never fails.
+    others.fill_with(|| bottom);
 }
 
 // The join of the levels from `low` to below `height`, at a place.
@@ -146,22 +46,58 @@ pub(crate) fn gather<K: Kind>(levels: &[K], places: usize, low: u16, height: u16
     verdict
 }
 
-// The levels below `height`, from the goal on level 0.
-pub(crate) fn fill<K: Kind, M: Measure>(
-    levels: &mut [K],
-    through: &[K],
-    goal: &[K],
-    pipes: &[Pipe],
-    step: u32,
-    height: u16,
-    top: u16,
-)
-    requires joined { Joined (length through.now) pipes.now }
-    requires goal { length goal.now ≡ length through.now }
-    requires long { length levels.old ≡ (top + 1) * length goal.now }
-    requires height { height ≤ top + 1 }
-    ensures { levels.new ≡ climbed K.Kind.ops through.now M.Measure.extend step top pipes.now height (begun K.Kind.ops goal.now top) }
-{
-    begin(levels, goal, top);
-    climb::<K, M>(levels, through, pipes, step, height, top);
+// What levels are worked through with: the verdicts on the way, the pipes, the step at which they stand, and the highest level.
+#[derive(Drop)]
+pub(crate) struct Flow<'a, K> {
+    pub(crate) through: &'a [K],
+    pub(crate) pipes: &'a [Pipe],
+    pub(crate) step: u32,
+    pub(crate) top: u16,
+    ghost joined: { Joined (length through.now) pipes.now },
+}
+
+impl<K: Kind> Flow<'_, K> {
+    // The pipe's near end, on the level `high`, joins what its far end has on the level `low`.
+    fn lift(&self, levels: &mut [K], pipe: &Pipe, low: usize, high: usize)
+        requires ends { Ends (length self.now.through.now) pipe.now }
+        requires near { high * length self.now.through.now + pipe.now.from < length levels.old }
+        requires far { low * length self.now.through.now + pipe.now.to < length levels.old }
+        ensures { levels.new ≡ lifted K.Kind.ops self.now.through.now low high levels.old pipe.now }
+    {
+        let near = high * self.through.len() + pipe.from as usize;
+        let far = low * self.through.len() + pipe.to as usize;
+        let gain = self.through[pipe.from as usize].meet(levels[far]);
+        levels[near] = levels[near].join(gain);
+    }
+
+    // A pipe that stands lifts from a level to the one that it extends it to.
+    fn push<M: Measure>(&self, levels: &mut [K], pipe: &Pipe, level: u16)
+        requires ends { Ends (length self.now.through.now) pipe.now }
+        requires room { (self.now.top + 1) * length self.now.through.now ≤ length levels.old }
+        requires level { level ≤ self.now.top }
+        ensures { levels.new ≡ pushed K.Kind.ops self.now.through.now M.Measure.extend self.now.step self.now.top level levels.old pipe.now }
+    {
+        if standing(pipe, self.step) {
+            let high = M::extended(level, pipe).min(self.top);
+            self.lift(levels, pipe, level as usize, high as usize);
+        }
+    }
+
+    // The levels below `height`, from the goal on level 0 up.
+    pub(crate) fn fill<M: Measure>(&self, levels: &mut [K], goal: &[K], height: u16)
+        requires goal { length goal.now ≡ length self.now.through.now }
+        requires long { length levels.old ≡ (self.now.top + 1) * length goal.now }
+        requires height { height ≤ self.now.top + 1 }
+        ensures { levels.new ≡ climbed K.Kind.ops self.now.through.now M.Measure.extend self.now.step self.now.top self.now.pipes.now height (begun K.Kind.ops goal.now self.now.top) }
+    {
+        begin(levels, goal, self.top);
+        for level in 0..height {
+            // A level settles after as many passes as there are places; one more hands on what has settled.
+            for _ in 0..=self.through.len() {
+                for pipe in self.pipes {
+                    self.push::<M>(levels, pipe, level);
+                }
+            }
+        }
+    }
 }

@@ -1,5 +1,5 @@
 -- Which refusal an entry gets, from the range held.
-use Rattle.std.proofs.Common.{◌≡◌, ℕ, ◌<◌, ◌≤◌, true, false, cond, length, Some, None, Ok, Err, sym, ap, ◌∙◌, subst, le-ltb, lt-ltb}
+use Rattle.std.proofs.Common.{◌≡◌, ℕ, ◌<◌, ◌≤◌, true, false, length, Some, None, Ok, Err, sym, ap, le-ltb, lt-ltb}
 use Rattle.reading.specs.Ends.{Ends, inside}
 use Rattle.refusal.specs.declared.Refusal.{Refusal}
 use Rattle.refusal.specs.declared.Refusal.TheVariants.{NoSuchCell, NotInside, StoreFull}
@@ -14,22 +14,14 @@ taken s k g is = record { answers = ap answer (sym is); after = ap (λ o. leaves
 
 module _ (s : Stored) (k : ℕ) (g : Ends) where
   pub no_cell : length s.ranges ≤ k → Entered s k g (Err NoSuchCell) s
-  no_cell le = refused s k g NoSuchCell (let t = le-ltb k (length s.ranges) le in rw t)
+  no_cell le = refused s k g NoSuchCell (rw (le-ltb k (length s.ranges) le))
 
   module _ (held : Ends) (lt : k < length s.ranges) (is : at s.ranges k ≡ held) where
     pub not_inside : inside g held ≡ false → Entered s k g (Err NotInside) s
-    not_inside e =
-        refused s k g NotInside (let t = lt-ltb k (length s.ranges) lt in rw (t, is, e))
-
-    past_two : inside g held ≡ true → refusal s k g ≡ cond (is_full s k g) (Some StoreFull) None
-    past_two e =
-        let t = lt-ltb k (length s.ranges) lt in
-        let i : inside g (at s.ranges k) ≡ true = ap (inside g) is ∙ e in
-        rw (t, i)
+    not_inside e = refused s k g NotInside (rw (lt-ltb k (length s.ranges) lt, is, e))
 
     pub full : inside g held ≡ true → is_full s k g ≡ true → Entered s k g (Err StoreFull) s
-    full e z = refused s k g StoreFull (past_two e ∙ ap (λ b. cond b (Some StoreFull) None) z)
+    full e z = refused s k g StoreFull (rw (lt-ltb k (length s.ranges) lt, z, is, e))
 
     pub entered : (t : Stored) → inside g held ≡ true → is_full s k g ≡ false → t ≡ accepted s k g → Entered s k g (Ok tt) t
-    entered t e z q =
-        subst (Entered s k g (Ok tt)) (sym q) (taken s k g (past_two e ∙ ap (λ b. cond b (Some StoreFull) None) z))
+    entered t e z q = rw q (taken s k g (rw (lt-ltb k (length s.ranges) lt, z, is, e)))

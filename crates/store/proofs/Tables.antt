@@ -1,8 +1,7 @@
 -- The full table never runs full.
-use Rattle.std.proofs.Common.{◌≡◌, ℕ, zero, suc, ◌<◌, ◌≤◌, Bool, true, false, cond, not, ◌&&◌, leb, List, [], ◌∷◌, map, length, get_or, set, Ok, Err, sym, refl, ap, ◌∙◌, arith, length-set}
-use lib.ListN.{length-map}
-use borrow.Author.Tests.{lt-leb}
-use Rattle.std.proofs.lemmas.List.{get_or-map, map-set}
+use Rattle.std.proofs.Common.{◌≡◌, ℕ, zero, suc, ◌<◌, ◌≤◌, true, false, List, [], ◌∷◌, map, length, replicate, get_or, set, Ok, Err, sym, refl, ap, ◌∙◌, arith, length-set}
+use Rattle.std.proofs.lemmas.Bool.Decides.{nat_tests}
+use Rattle.std.proofs.lemmas.List.{get_or-map, length-map, map-set}
 use Rattle.reading.specs.declared.range.Range.{Range}
 use Rattle.reading.specs.Ends.{Ends, ends, widest, inside, is_widest}
 use Rattle.refusal.specs.declared.Refusal.TheVariants.{NoSuchCell, NotInside}
@@ -10,24 +9,19 @@ use Rattle.store.specs.Stored.{stored, at, used, is_full, Entered}
 use Rattle.store.specs.Tables.{tabled}
 use Rattle.store.proofs.Entering.{no_cell, not_inside, entered}
 
-bit : (b : Bool) → cond b 0 1 ≤ 1
-bit true = omega arith
-bit false = omega arith
+pub map-replicate : {A B : Type 0} (f : A → B) (n : ℕ) (x : A) → map f (replicate n x) ≡ replicate n (f x)
+map-replicate f zero x = refl
+map-replicate f (suc n) x = ap (λ l. f x ∷ l) (map-replicate f n x)
 
 used_le : (es : List Ends) → used es ≤ length es
 used_le [] = omega arith
-used_le (e ∷ es) = omega (arith, bit (is_widest e), used_le es)
+used_le (e ∷ es) = grind (arith, used_le es)
 
 -- a table with a widest cell has room
 room : (es : List Ends) (k : ℕ) → k < length es → is_widest (at es k) ≡ true → used es < length es
 room [] k lt w = absurd (omega arith)
-room (e ∷ es) zero lt w = omega (arith, ap {B = ℕ} (λ b. cond b 0 1) w, used_le es)
-room (e ∷ es) (suc k) lt w = omega (arith, bit (is_widest e), room es k (omega arith) w)
-
-both_fail : (a b d : Bool) → (a ≡ true → d ≡ false) → ((a && b) && d) ≡ false
-both_fail false b d h = refl
-both_fail true true d h = h refl
-both_fail true false d h = refl
+room (e ∷ es) zero lt w = rw w (omega (arith, used_le es))
+room (e ∷ es) (suc k) lt w = grind (arith, room es k (omega arith) w)
 
 module _ (rs : List Range) (k : ℕ) (g : Ends) where
   pub missing : length rs ≤ k → Entered (tabled rs) k g (Err NoSuchCell) (tabled rs)
@@ -44,9 +38,7 @@ module _ (rs : List Range) (k : ℕ) (g : Ends) where
     outside e = not_inside (tabled rs) k g (ends r) there held e
 
     not_full : is_full (tabled rs) k g ≡ false
-    not_full =
-        both_fail (is_widest (at (map ends rs) k)) (not (is_widest g)) (leb (length rs) (used (map ends rs)))
-        (λ w. lt-leb (length rs) (used (map ends rs)) (omega (arith, room (map ends rs) k there w, length-map rs ends)))
+    not_full = grind (arith, nat_tests, room (map ends rs) k there, length-map rs ends)
 
     pub narrowed : (x : Range) → ends x ≡ g → inside g (ends r) ≡ true → Entered (tabled rs) k g (Ok tt) (tabled (set rs k x))
     narrowed x same e =

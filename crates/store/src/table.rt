@@ -18,11 +18,9 @@ impl Table {
     pub fn new(heap: Global, cells: usize) -> Result<Table, AllocError>
         ensures { IfOk result (λ t. table_of t ≡ fresh cells cells) }
     {
-        let mut ranges = Vec::with_capacity(heap, cells)?;
-        for _cell in 0..cells {
-            ranges.push_reserved(Range::widest());
-        }
-        Ok(Table { ranges })
+        Ok(Table {
+            ranges: vec![in heap; Range::widest(); cells]?,
+        })
     }
 }
 
@@ -34,10 +32,7 @@ impl Readings for Table {
     }
 
     fn range(&self, cell: usize) -> Range {
-        if cell >= self.ranges.len() {
-            return Range::widest();
-        }
-        self.ranges[cell]
+        self.ranges.get(cell).copied().unwrap_or(Range::widest())
     }
 }
 

@@ -1,7 +1,6 @@
 // Surveys: a plan that is sealed together with a store takes entries and gives sheets.
 #![tactic(auto)]
 
-mod sealed;
-mod surveying;
+mod survey;
 
-pub use sealed::Survey;
+pub use survey::Survey;

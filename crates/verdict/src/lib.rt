@@ -4,7 +4,6 @@
 mod kind;
 mod limit;
 mod margin;
-mod margins;
 mod printed;
 mod span;
 mod yesno;

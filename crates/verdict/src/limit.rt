@@ -2,10 +2,7 @@
 ghost use Rattle.std.specs.Prelude.{◌≡◌};
 ghost use Rattle.verdict.specs.Algebra.{nearest};
 
-// The bounds of every limit.
-const LOWEST: i32 = -1_000_000;
-
-const HIGHEST: i32 = 1_000_000;
+use reading::{HIGHEST, LOWEST};
 
 // The limit, or the nearer bound where it lies beyond.
 pub(crate) fn within(limit: i32) -> i32

@@ -6,21 +6,21 @@ use crate::kind::Kind;
 use crate::margin::Margin;
 use crate::span::Span;
 use crate::yesno::YesNo;
-use std::alloc::{AllocError, Global};
+use std::alloc::AllocError;
 
 // A kind whose verdicts can be printed.
 pub trait Printed: Kind {
     ghost text: { Self → List ℕ };
 
     // Adds the verdict's text to what is written so far.
-    fn write(self, heap: Global, out: &mut String) -> Result<(), AllocError>
+    fn write(self, out: &mut String) -> Result<(), AllocError>
         ensures { OnOk result (string_bytes out.new ≡ string_bytes out.old ++ text self) };
 }
 
 impl Printed for YesNo {
     ghost text = { yesno_text };
 
-    fn write(self, heap: Global, out: &mut String) -> Result<(), AllocError> {
+    fn write(self, out: &mut String) -> Result<(), AllocError> {
         let letter = match self {
             YesNo::Yes => "y",
             YesNo::No => "n",
@@ -32,19 +32,18 @@ impl Printed for YesNo {
 impl Printed for Margin {
     ghost text = { margin_text };
 
-    fn write(self, heap: Global, out: &mut String) -> Result<(), AllocError> {
-        let value = self.value;
-        let text = format!(in heap; "{value}")?;
-        out.push_str(text.as_str())
+    fn write(self, out: &mut String) -> Result<(), AllocError> {
+        let value = self.value();
+        write!(out, "{value}")
     }
 }
 
 impl<K: Printed> Printed for Span<K> {
     ghost text = { span_text K.Printed.text };
 
-    fn write(self, heap: Global, out: &mut String) -> Result<(), AllocError> {
-        self.low.write(heap, out)?;
+    fn write(self, out: &mut String) -> Result<(), AllocError> {
+        self.low.write(out)?;
         out.push_str("..")?;
-        self.high.write(heap, out)
+        self.high.write(out)
     }
 }

@@ -5,7 +5,7 @@ use crate::kind::Kind;
 use reading::Range;
 
 // A low and a high verdict of one kind.
-#[derive(Clone, Copy)]
+#[derive(Clone, Copy, PartialEq, Eq, Debug)]
 pub struct Span<K> {
     pub low: K,
     pub high: K,

@@ -1,14 +1,26 @@
 // The kind of yes or no.
+ghost use Rattle.std.specs.Prelude.{◌≡◌};
 ghost use Rattle.verdict.specs.YesNo.{yesno, yesno_laws};
 
 use crate::kind::Kind;
 use crate::limit::within;
 use reading::Range;
 
-#[derive(Clone, Copy, PartialEq, Eq, Debug)]
+// No is less than yes.
+#[derive(Clone, Copy, PartialEq, Eq, PartialOrd, Ord, Debug)]
 pub enum YesNo {
     No,
     Yes,
+}
+
+impl From<bool> for YesNo {
+    ghost use Rattle.verdict.specs.YesNo.{answer};
+
+    ghost from_gives = { λ holds result. result ≡ answer holds };
+
+    fn from(holds: bool) -> YesNo {
+        if holds { YesNo::Yes } else { YesNo::No }
+    }
 }
 
 impl Kind for YesNo {
@@ -25,17 +37,11 @@ impl Kind for YesNo {
     }
 
     fn join(self, other: YesNo) -> YesNo {
-        match self {
-            YesNo::Yes => YesNo::Yes,
-            YesNo::No => other,
-        }
+        self.max(other)
     }
 
     fn meet(self, other: YesNo) -> YesNo {
-        match self {
-            YesNo::Yes => other,
-            YesNo::No => YesNo::No,
-        }
+        self.min(other)
     }
 
     fn not(self) -> YesNo {
@@ -46,11 +52,7 @@ impl Kind for YesNo {
     }
 
     fn judge(range: Range, limit: i32) -> YesNo {
-        if within(limit) <= range.low() {
-            YesNo::Yes
-        } else {
-            YesNo::No
-        }
+        YesNo::from(within(limit) <= range.low())
     }
 
     fn takes_ranges() -> bool {

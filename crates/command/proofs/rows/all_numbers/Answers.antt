@@ -1,27 +1,14 @@
 -- The proof of all_numbers.
-use Rattle.std.proofs.Common.{◌≡◌, ℕ, ◌+◌, ◌<◌, Bool, ◌&&◌, List, map, length, get_or, drop, is_some, sym, ap, ◌∙◌, arith}
-use Rattle.std.proofs.lemmas.List.{at_drop_more, at_drop_all}
-use Rattle.line.specs.declared.token.Token.{Token}
+use Rattle.std.proofs.Common.{is_some, sym, ◌∙◌, rules, tests}
+use Rattle.std.proofs.lemmas.Iterator.{YieldsList-from_slice}
+use Rattle.std.proofs.lemmas.Iterator.Search.{all_from_yields_List}
+use Rattle.std.proofs.lemmas.List.Folds.{list_all-map}
 use Rattle.line.specs.Line.{integer, token_field}
-use Rattle.command.specs.Commands.{numbers}
 use Rattle.command.proofs.rows.all_numbers.Goals as goal
 
--- one field more was looked at
-turn : (ts : List Token) (i : ℕ) (d : Token) (r : Bool) → i < length ts → is_some (integer (token_field (get_or ts i d))) ≡ r → numbers (map token_field (drop i ts)) ≡ numbers (map token_field ts) → (r && numbers (map token_field (drop (i + 1) ts))) ≡ numbers (map token_field ts)
-turn ts i d r lt e inv =
-    ap (λ b. b && numbers (map token_field (drop (i + 1) ts))) (sym e)
-    ∙ sym (at_drop_more (λ l. numbers (map token_field l)) ts i d lt)
-    ∙ inv
-
-pub returns-then-is_none : goal.returns-then-is_none
-returns-then-is_none c =
-    turn c.args.fields.now c.loop-field.field-index _ _ (omega arith) (ap is_some (sym c.integer.ensures) ∙ c.if-is_none.ensures) c.loop-field.invariant
-
-pub loop-field-preserved : goal.loop-field-preserved
-loop-field-preserved c =
-    turn c.args.fields.now c.loop-field.field-index _ _ (omega arith) (ap is_some (sym c.integer.ensures) ∙ c.if-is_none.ensures) c.loop-field.invariant
-
+-- The search sees no list of tokens behind the `all`.
 pub returns : goal.returns
 returns c =
-    sym (at_drop_all (λ l. numbers (map token_field l)) c.args.fields.now c.loop-field.field-index (omega arith))
-    ∙ c.loop-field.invariant
+    let ts = c.args.fields.now in
+    all_from_yields_List (λ t. is_some (integer (token_field t))) _ _ _ c.all.ensures.ran (YieldsList-from_slice ts cc) (λ x b q k. search (rules, tests))
+    ∙ sym (list_all-map (λ f. is_some (integer f)) token_field ts)

@@ -8,7 +8,7 @@ invariant_of-self c =
     let s = c.args.self.now in
     let more = c.push_reserved.new.self in
     let k = kept_first s c.args.added c.requires.within c.requires.narrow c.args.before c.requires.gap c.len-index.result (omega (arith, s.records.ok.0)) (vec_items more) c.push_reserved.ensures.items c.in-None.is in
-    record { memory = omega arith; room = omega arith; within = k.within; onward = k.onward; nearest = k.nearest; apart = k.apart; narrow = k.narrow; tally = k.tally }
+    record { memory = omega arith; room = omega arith; kept = k }
 
 pub returns-in-None : goal.returns-in-None
 returns-in-None c =
@@ -21,7 +21,7 @@ invariant_of-self-in-Some c =
     let s = c.args.self.now in
     let more = c.push_reserved.new.self in
     let k = kept_after s c.args.added c.requires.within c.requires.narrow c.args.before c.requires.gap c.len-index.result (omega (arith, s.records.ok.0)) (vec_items more) c.push_reserved.ensures.items c.in-Some.last c.in-Some.is c.index_mut.result.now c.index_mut.ensures.value in
-    record { memory = omega arith; room = omega arith; within = k.within; onward = k.onward; nearest = k.nearest; apart = k.apart; narrow = k.narrow; tally = k.tally }
+    record { memory = omega arith; room = omega arith; kept = k }
 
 pub returns-in-Some : goal.returns-in-Some
 returns-in-Some c =

@@ -6,4 +6,4 @@ pub invariant_of-result : goal.invariant_of-result
 invariant_of-result c =
     let made = c.in_ok-unused.ensures in
     let k = kept_none c.args.cells _ made.items in
-    record { memory = omega arith; room = omega arith; within = k.within; onward = k.onward; nearest = k.nearest; apart = k.apart; narrow = k.narrow; tally = k.tally }
+    record { memory = omega arith; room = omega arith; kept = k }
