@@ -1,6 +1,8 @@
 // A job under way: its lines are read one by one, in three loops, each of which owns what the job then holds.
 ghost use Rattle.std.specs.Prelude.{◌≡◌, [], IfOk, string_bytes, MatchOption, OnOk};
 ghost use Rattle.plan.specs.Drafts.{plan_of};
+ghost use Rattle.store.specs.Tables.{table_of};
+ghost use Rattle.survey.specs.Surveys.{survey_of};
 ghost use Rattle.job.specs.Jobs.{blank as at_blank, draft as at_draft, survey as at_survey, job_text};
 ghost use Rattle.job.specs.Reading.{Told};
 
@@ -78,7 +80,7 @@ impl<'a> Job<'a> {
     fn await_survey(&mut self, mut draft: Draft) -> Result<Option<Survey<Table>>, AllocError>
         requires part { self.old.part ≡ Part.Drafting }
         ensures part { IfOk result (λ o. MatchOption o (self.new.part ≡ Part.Drafting) (λ _. self.new.part ≡ Part.Sealed)) }
-        ensures prints { IfOk result (λ o. MatchOption o (string_bytes self.new.out.text ≡ in_all self.old (at_draft (plan_of draft))) (λ s. in_all self.new (at_survey s) ≡ in_all self.old (at_draft (plan_of draft)))) }
+        ensures prints { IfOk result (λ o. MatchOption o (string_bytes self.new.out.text ≡ in_all self.old (at_draft (plan_of draft))) (λ s. in_all self.new (at_survey (survey_of (λ t. (table_of t).capacity) (λ t. (table_of t).ranges) s)) ≡ in_all self.old (at_draft (plan_of draft)))) }
     {
         while let Some(answer) = self.next_command()? {
             if let Some(table) = draft_turn(self.heap, answer, &mut draft, &mut self.out)? {
@@ -92,7 +94,7 @@ impl<'a> Job<'a> {
     // The lines on a sealed survey.
     fn use_survey<S: Store + Drop>(&mut self, mut survey: Survey<S>) -> Result<(), AllocError>
         requires part { self.old.part ≡ Part.Sealed }
-        ensures { OnOk result (string_bytes self.new.out.text ≡ in_all self.old (at_survey survey)) }
+        ensures { OnOk result (string_bytes self.new.out.text ≡ in_all self.old (at_survey (survey_of S.Store.most S.Readings.ranges survey))) }
     {
         while let Some(answer) = self.next_command()? {
             survey_turn(answer, &mut survey, &mut self.out)?;

@@ -1,5 +1,6 @@
 // Drawing the sheet that a line asks for.
 ghost use Rattle.std.specs.Prelude.{◌≡◌, ◌++◌, string_bytes, OnOk};
+ghost use Rattle.survey.specs.Surveys.{survey_of};
 ghost use Rattle.job.specs.Jobs.{kind_report, measure as measure_of};
 
 use command::{MeasureName, SheetKind};
@@ -16,7 +17,7 @@ fn report_kind<M: Measure, S: Store>(
     survey: &Survey<S>,
     out: &mut Printout,
 ) -> Result<(), AllocError>
-    ensures { OnOk result (string_bytes out.new.text ≡ string_bytes out.old.text ++ kind_report kind M.Measure.extend survey.now out.old.line) }
+    ensures { OnOk result (string_bytes out.new.text ≡ string_bytes out.old.text ++ kind_report kind M.Measure.extend (survey_of S.Store.most S.Readings.ranges survey.now) out.old.line) }
 {
     match kind {
         SheetKind::YesNo => out.report_sheet::<YesNo, M, S>(survey),
@@ -33,7 +34,7 @@ pub(crate) fn report_drawing<S: Store>(
     survey: &Survey<S>,
     out: &mut Printout,
 ) -> Result<(), AllocError>
-    ensures { OnOk result (string_bytes out.new.text ≡ string_bytes out.old.text ++ kind_report kind (measure_of measure) survey.now out.old.line) }
+    ensures { OnOk result (string_bytes out.new.text ≡ string_bytes out.old.text ++ kind_report kind (measure_of measure) (survey_of S.Store.most S.Readings.ranges survey.now) out.old.line) }
 {
     match measure {
         MeasureName::Hops => report_kind::<Hops, S>(kind, survey, out),

@@ -1,6 +1,7 @@
 // What one line does at each stage of a job.
 ghost use Rattle.std.specs.Prelude.{◌≡◌, IfOk, string_bytes, OnOk};
 ghost use Rattle.plan.specs.Drafts.{plan_of};
+ghost use Rattle.survey.specs.Surveys.{survey_of};
 ghost use Rattle.job.specs.Jobs.{blank, draft as at_draft, survey as at_survey, obeyed, answered};
 ghost use Rattle.job.specs.Reading.{Done, opened_stage, sealed_stage};
 
@@ -90,7 +91,7 @@ pub(crate) fn survey_turn<S: Store>(
     survey: &mut Survey<S>,
     out: &mut Printout,
 ) -> Result<(), AllocError>
-    ensures { OnOk result (Done (string_bytes out.old.text) (string_bytes out.new.text) (at_survey survey.new) (answered out.old.line (at_survey survey.old) answer)) }
+    ensures { OnOk result (Done (string_bytes out.old.text) (string_bytes out.new.text) (at_survey (survey_of S.Store.most S.Readings.ranges survey.new)) (answered out.old.line (at_survey (survey_of S.Store.most S.Readings.ranges survey.old)) answer)) }
 {
     match answer {
         Ok(Command::Enter(entry)) => out.tell(survey.enter(entry)),

@@ -58,13 +58,15 @@ impl<'a, K: Kind> RowAtStep<'a, K> {
         ensures { (t : ℕ → ℕ) → ((k u : ℕ) → k < count → F.post step_of k u → u ≡ t k) → result ≡ windowed K.Kind.ops (λ k. on_board self.now K.Kind.ops.bottom window.hold (t k) place) (λ k. on_board self.now K.Kind.ops.bottom window.goal (t k) place) window.from count }
     {
         let mut held = K::top();
+        // Two loops: a step that is passed over, in one loop with the others, costs more than it spares.
+        let first = window.from.min(count);
+        for k in 0..first {
+            held = held.meet(self.standing(window.hold, step_of(k), place));
+        }
         let mut verdict = K::bottom();
-        for k in 0..count {
+        for k in first..count {
             let step = step_of(k);
             held = held.meet(self.standing(window.hold, step, place));
-            if k < window.from {
-                continue;
-            }
             let reached = self.standing(window.goal, step, place);
             verdict = verdict.join(reached.meet(held));
         }

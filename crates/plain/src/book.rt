@@ -16,15 +16,8 @@ pub(crate) struct Spot {
     pub(crate) place: u32,
 }
 
-// What a channel or a row has at each step, by place.
-pub(crate) type Board = Vec<Vec<Pair>>;
-
-// What the boards of channels or rows have at a spot.
-pub(crate) fn pair_at(boards: &[Board], number: u32, spot: Spot) -> Option<Pair> {
-    let board = boards.get(number as usize)?;
-    let places = board.get(spot.step as usize)?;
-    places.get(spot.place as usize).copied()
-}
+// What a channel or a row has at each spot: step by step, and at each step place by place.
+pub(crate) type Board = Vec<Pair>;
 
 // A plan and its readings, as plain lists.
 #[derive(Drop)]
@@ -50,26 +43,49 @@ impl Book {
         }
     }
 
+    // Where a spot stands on a board, if the plan has it.
+    pub(crate) fn index(&self, spot: Spot) -> Option<usize> {
+        if spot.step >= self.size.steps || spot.place >= self.size.places {
+            return None;
+        }
+        let before = (spot.step as usize).saturating_mul(self.size.places as usize);
+        Some(before.saturating_add(spot.place as usize))
+    }
+
+    // How many spots a board has.
+    pub(crate) fn spots(&self) -> usize {
+        (self.size.steps as usize).saturating_mul(self.size.places as usize)
+    }
+
+    // What the boards of channels or rows have at a spot.
+    pub(crate) fn pair_at(&self, boards: &[Board], number: u32, spot: Spot) -> Option<Pair> {
+        let board = boards.get(number as usize)?;
+        board.get(self.index(spot)?).copied()
+    }
+
     // Nothing is known of any cell.
     pub(crate) fn fill(&mut self, heap: Global) -> Result<(), AllocError> {
         let unknown = Pair {
             low: LEAST,
             high: MOST,
         };
-        let places = vec![in heap; unknown; self.size.places as usize]?;
-        let board = vec![in heap; places; self.size.steps as usize]?;
+        let board = vec![in heap; unknown; self.spots()]?;
         self.cells = vec![in heap; board; self.size.channels as usize]?;
         Ok(())
     }
 
     pub(crate) fn cell(&self, channel: u32, spot: Spot) -> Option<Pair> {
-        pair_at(self.cells.as_slice(), channel, spot)
+        self.pair_at(self.cells.as_slice(), channel, spot)
     }
 
     pub(crate) fn enter(&mut self, entry: Entry) {
-        if let Some(board) = self.cells.get_mut(entry.channel as usize)
-            && let Some(places) = board.get_mut(entry.step as usize)
-            && let Some(cell) = places.get_mut(entry.place as usize)
+        let spot = Spot {
+            step: entry.step,
+            place: entry.place,
+        };
+        if let Some(index) = self.index(spot)
+            && let Some(board) = self.cells.get_mut(entry.channel as usize)
+            && let Some(cell) = board.get_mut(index)
         {
             *cell = Pair {
                 low: entry.low,

@@ -123,9 +123,9 @@ impl Book {
 
     // Whether each cell has an exact reading.
     fn is_exact(&self) -> bool {
-        self.cells.iter().all(|board| board
+        self.cells
             .iter()
-            .all(|places| places.iter().all(|cell| cell.low == cell.high)))
+            .all(|board| board.iter().all(|cell| cell.low == cell.high))
     }
 
     pub(crate) fn check_sheet(&self, kind: SheetKind) -> Result<(), Fault> {

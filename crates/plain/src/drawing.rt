@@ -1,5 +1,5 @@
 // The verdicts of rows, each straight from what it means.
-use crate::book::{Board, Book, Spot, pair_at};
+use crate::book::{Board, Book, Spot};
 use crate::scale::{Pair, Scale, shows_spans};
 use command::{MeasureName, SheetKind};
 use network::Distances;
@@ -55,21 +55,20 @@ impl<'a> Drawing<'a> {
 
     // The verdicts of a statement over the rows so far.
     fn board(&self, statement: Statement) -> Result<Board, AllocError> {
-        (0..self.book.size.steps)
-            .map(|step| self.verdicts(statement, step))
-            .try_collect(self.heap)
-    }
-
-    // Those at a step, by place.
-    fn verdicts(&self, statement: Statement, step: u32) -> Result<Vec<Pair>, AllocError> {
-        (0..self.book.size.places)
-            .map(|place| self.verdict(statement, Spot { step, place }))
-            .try_collect(self.heap)
+        let mut board = Vec::with_capacity(self.heap, self.book.spots())?;
+        for step in 0..self.book.size.steps {
+            for place in 0..self.book.size.places {
+                board.push(self.verdict(statement, Spot { step, place })?)?;
+            }
+        }
+        Ok(board)
     }
 
     // The verdict of a row that is drawn.
     fn at(&self, row: u32, spot: Spot) -> Pair {
-        pair_at(self.rows.as_slice(), row, spot).unwrap_or_default()
+        self.book
+            .pair_at(self.rows.as_slice(), row, spot)
+            .unwrap_or_default()
     }
 
     fn verdict(&self, statement: Statement, spot: Spot) -> Result<Pair, AllocError> {
@@ -176,8 +175,11 @@ impl<'a> Drawing<'a> {
         };
         for place in 0..self.book.size.places {
             write!(out, "{place}")?;
-            for verdicts in last.as_slice() {
-                if let Some(Pair { low, high }) = verdicts.get(place as usize).copied() {
+            for step in 0..self.book.size.steps {
+                let spot = Spot { step, place };
+                if let Some(index) = self.book.index(spot)
+                    && let Some(Pair { low, high }) = last.get(index).copied()
+                {
                     out.push_str(" ")?;
                     self.scale.write(low, out)?;
                     if shows_spans(self.kind) {

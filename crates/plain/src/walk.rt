@@ -4,13 +4,15 @@ use crate::drawing::Drawing;
 use command::MeasureName;
 use network::Pipe;
 use std::alloc::AllocError;
-use std::collections::BTreeSet;
+use std::mem;
 
 // Every distance from 128 on is as far as 128: no limit is above 127.
 const FAR: u32 = 128;
 
-// How many pairs of a place and a distance there are on the largest plan.
-const PAIRS: u32 = 32 * 129;
+// How many distances from 0 to `FAR` there are, and how many pairs of a place and a distance on the largest plan.
+const DISTANCES: usize = 129;
+
+const PAIRS: usize = 32 * DISTANCES;
 
 fn further(measure: MeasureName, distance: u32, pipe: &Pipe) -> u32 {
     let more = match measure {
@@ -21,21 +23,35 @@ fn further(measure: MeasureName, distance: u32, pipe: &Pipe) -> u32 {
     more.min(FAR)
 }
 
+// Marks a pair of a place and a distance, and says whether it is new.
+fn mark(marks: &mut [bool], (place, distance): (u32, u32)) -> bool {
+    let index = (place as usize)
+        .saturating_mul(DISTANCES)
+        .saturating_add(distance as usize);
+    match marks.get_mut(index) {
+        Some(marked) => !mem::replace(marked, true),
+        None => false,
+    }
+}
+
 impl Drawing<'_> {
-    // The end and the distance of each route from a spot that leaves none but allowed places.
+    // The end and the distance of each route from a spot that leaves none but allowed places, each pair once.
     pub(crate) fn walk<F: Fn(u32) -> bool>(
         &self,
         start: Spot,
         allowed: F,
-    ) -> Result<BTreeSet<(u32, u32)>, AllocError>
+    ) -> Result<Vec<(u32, u32)>, AllocError>
         requires { F.IsAlwaysCallable allowed }
     {
-        let mut found = BTreeSet::new(self.heap);
-        let mut waiting = vec![in self.heap; (start.place, 0u32)]?;
-        found.insert((start.place, 0u32))?;
-        // each pair waits once
-        for _ in 0..PAIRS {
-            let Some((place, distance)) = waiting.pop() else {
+        let count = (self.book.size.places as usize).saturating_mul(DISTANCES);
+        let mut marks = vec![in self.heap; false; count]?;
+        let mut found = Vec::new(self.heap);
+        if mark(&mut marks, (start.place, 0)) {
+            found.push((start.place, 0u32))?;
+        }
+        // each pair is followed once
+        for next in 0..PAIRS {
+            let Some((place, distance)) = found.get(next).copied() else {
                 break;
             };
             if !allowed(place) {
@@ -44,8 +60,8 @@ impl Drawing<'_> {
             for pipe in self.book.pipes.as_slice() {
                 if pipe.from == place && (pipe.first..=pipe.last).contains(&start.step) {
                     let end = (pipe.to, further(self.measure, distance, pipe));
-                    if found.insert(end)? {
-                        waiting.push(end)?;
+                    if mark(&mut marks, end) {
+                        found.push(end)?;
                     }
                 }
             }

@@ -67,10 +67,11 @@ fn main(rt: HostRuntime) -> io::Result<()> {
         .next()
         .and_then(|word| word.as_str().parse::<u64>().ok())
         .unwrap_or(1);
-    let count = args
-        .next()
-        .and_then(|word| word.as_str().parse::<u32>().ok())
-        .unwrap_or(1_000);
+    // Where several words follow the seed, the last that is a number counts.
+    let count = args.fold(
+        1_000,
+        |count, word| word.as_str().parse::<u32>().unwrap_or(count),
+    );
     let mut random = Random::new(seed);
     let mut tally = Tally::new(rt.alloc());
     for number in 0..count {

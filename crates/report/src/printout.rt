@@ -3,6 +3,7 @@ ghost use Rattle.std.specs.Prelude.{◌≡◌, ◌<◌, ◌≤◌, ◌++◌, [],
 ghost use Rattle.std.specs.Result.{result_err};
 ghost use Rattle.plan.specs.Drafts.{plan_of};
 ghost use Rattle.monitor.specs.Boards.{shown, area};
+ghost use Rattle.survey.specs.Surveys.{survey_of};
 ghost use Rattle.report.specs.Texts.{refusal_text, unless_refused, sheet_text, sheet_report};
 
 use crate::block::Block;
@@ -102,7 +103,7 @@ impl Printout {
     ) -> Result<(), AllocError>
         requires board { length board.old ≡ 2048 }
         requires work { length work.old ≡ 4096 }
-        ensures { Adds result self.old self.new (sheet_report K.Kind.ops M.Measure.extend K.Printed.text survey.now self.old.line) }
+        ensures { Adds result self.old self.new (sheet_report K.Kind.ops M.Measure.extend K.Printed.text (survey_of S.Store.most S.Readings.ranges survey.now) self.old.line) }
     {
         match survey.sheet::<K, M>(board, work) {
             Ok(()) => self.write_sheet(survey.plan(), board),
@@ -115,7 +116,7 @@ impl Printout {
         &mut self,
         survey: &Survey<S>,
     ) -> Result<(), AllocError>
-        ensures { Adds result self.old self.new (sheet_report K.Kind.ops M.Measure.extend K.Printed.text survey.now self.old.line) }
+        ensures { Adds result self.old self.new (sheet_report K.Kind.ops M.Measure.extend K.Printed.text (survey_of S.Store.most S.Readings.ranges survey.now) self.old.line) }
     {
         let heap = *self.text.allocator();
         let mut board = bottoms::<K>(heap, BOARD)?;

@@ -4,9 +4,11 @@ use Rattle.refusal.specs.declared.Refusal.{Refusal}
 use Rattle.refusal.specs.declared.Refusal.TheVariants.{OtherCells, NoSuchCell, NoRange}
 use Rattle.refusal.specs.Checks.{Check, first}
 use Rattle.reading.specs.Ends.{Ends, is_range}
-use Rattle.store.specs.Stored.{Stored, checks, accepted}
+use Rattle.store.specs.Stored.{Stored, stored, checks, accepted}
 use Rattle.plan.specs.Plans.{Plan, cells, index}
+use Rattle.plan.specs.Drafts.{plan_of}
 use Rattle.reading.specs.declared.entry.Entry.{Entry}
+use Rattle.survey.specs.declared.survey.Survey.{Survey}
 
 -- what a survey holds
 pub record Surveyed : Type 0 where
@@ -16,6 +18,10 @@ pub record Surveyed : Type 0 where
 
 abbrev pub surveyed : Plan → ℕ → Stored → Surveyed
 surveyed plan number store = record { plan = plan; number = number; store = store }
+
+-- by the meaning of its store: the capacity and the ranges
+abbrev pub survey_of : {S : Type 0} → (S → ℕ) → (S → List Ends) → Survey S → Surveyed
+survey_of most ranges s = surveyed (plan_of s.draft) s.number (stored (most s.store) (ranges s.store))
 
 -- the store's cells are those of the plan
 abbrev pub sealing_checks : Plan → ℕ → List Check

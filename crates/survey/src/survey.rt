@@ -5,32 +5,25 @@ ghost use Rattle.store.specs.Stored.{at, stored};
 ghost use Rattle.plan.specs.Drafts.{plan_of};
 ghost use Rattle.monitor.specs.Verdicts.{verdict, OneSheet};
 ghost use Rattle.monitor.specs.Boards.{sheet_refusal, Leaves};
-ghost use Rattle.survey.specs.Surveys.{Surveyed, surveyed, sealing_refusal, found, entry_refusal, with_entry};
 
 use network::Measure;
 use plan::Draft;
 use reading::{Entry, Range};
 use refusal::Refusal;
-use std::marker::Model;
 use store::Store;
 use verdict::Kind;
 
 // A plan that no longer changes, with what is known of its cells.
 #[derive(Drop)]
-pub struct Survey<S: Store> {
+pub struct Survey<S> {
     draft: Draft,
     store: S,
     number: u32,
 }
 
-// A survey is seen as its plan, its number, and what its store means.
-impl<S: Store> Model for Survey<S> {
-    ghost Value = { Surveyed };
-
-    ghost view = { λ s. surveyed (plan_of s.draft) s.number (stored (S.Store.most s.store) (S.Readings.ranges s.store)) };
-}
-
 impl<S: Store> Survey<S> {
+    ghost use Rattle.survey.specs.Surveys.{survey_of, surveyed, sealing_refusal, found, entry_refusal, with_entry};
+
     // Whether the store has the plan's cells. Moves neither.
     pub fn check(draft: &Draft, store: &S) -> Result<(), Refusal>
         ensures { result ≡ answer (sealing_refusal (plan_of draft.now) (length (S.Readings.ranges store.now))) }
@@ -43,7 +36,7 @@ impl<S: Store> Survey<S> {
 
     // The draft and the store become a survey. Cells that the store lacks read as widest.
     pub fn seal(draft: Draft, store: S, number: u32) -> Survey<S>
-        ensures { result ≡ surveyed (plan_of draft) number (stored (S.Store.most store) (S.Readings.ranges store)) }
+        ensures { survey_of S.Store.most S.Readings.ranges result ≡ surveyed (plan_of draft) number (stored (S.Store.most store) (S.Readings.ranges store)) }
     {
         Survey {
             draft,
@@ -53,21 +46,21 @@ impl<S: Store> Survey<S> {
     }
 
     pub fn number(&self) -> u32
-        ensures { result ≡ self.now.number }
+        ensures { result ≡ (survey_of S.Store.most S.Readings.ranges self.now).number }
     {
         self.number
     }
 
     // The plan, to be read.
     pub fn plan(&self) -> &Draft
-        ensures { plan_of result.now ≡ self.now.plan }
+        ensures { plan_of result.now ≡ (survey_of S.Store.most S.Readings.ranges self.now).plan }
     {
         &self.draft
     }
 
     // The cell of a channel, a place and a step, if there is one.
     fn cell_of(&self, entry: Entry) -> Option<usize>
-        ensures { result ≡ found self.now entry }
+        ensures { result ≡ found (survey_of S.Store.most S.Readings.ranges self.now) entry }
     {
         let draft = &self.draft;
         if entry.channel >= draft.channels()
@@ -82,8 +75,8 @@ impl<S: Store> Survey<S> {
 
     // Enters a reading.
     pub fn enter(&mut self, entry: Entry) -> Result<(), Refusal>
-        ensures answers { result ≡ answer (entry_refusal self.old entry) }
-        ensures after { self.new ≡ leaves (entry_refusal self.old entry) self.old (with_entry self.old entry) }
+        ensures answers { result ≡ answer (entry_refusal (survey_of S.Store.most S.Readings.ranges self.old) entry) }
+        ensures after { survey_of S.Store.most S.Readings.ranges self.new ≡ leaves (entry_refusal (survey_of S.Store.most S.Readings.ranges self.old) entry) (survey_of S.Store.most S.Readings.ranges self.old) (with_entry (survey_of S.Store.most S.Readings.ranges self.old) entry) }
     {
         let cell = self.cell_of(entry).ok_or(Refusal::NoSuchCell)?;
         let range = Range::new(entry.low, entry.high).ok_or(Refusal::NoRange)?;
@@ -92,9 +85,9 @@ impl<S: Store> Survey<S> {
 
     // Draws a sheet of a kind with a measure.
     pub fn sheet<K: Kind, M: Measure>(&self, board: &mut [K], work: &mut [K]) -> Result<(), Refusal>
-        ensures answers { result ≡ answer (sheet_refusal self.now.plan (at self.now.store.ranges) K.Kind.ops.ranged (length board.old) (length work.old)) }
-        ensures leaves { Leaves (sheet_refusal self.now.plan (at self.now.store.ranges) K.Kind.ops.ranged (length board.old) (length work.old)) self.now.plan (verdict K.Kind.ops M.Measure.extend self.now.plan (at self.now.store.ranges)) board.old board.new work.old work.new }
-        ensures meaning { OneSheet K.Kind.ops M.Measure.extend self.now.plan (at self.now.store.ranges) }
+        ensures answers { result ≡ answer (sheet_refusal (survey_of S.Store.most S.Readings.ranges self.now).plan (at (survey_of S.Store.most S.Readings.ranges self.now).store.ranges) K.Kind.ops.ranged (length board.old) (length work.old)) }
+        ensures leaves { Leaves (sheet_refusal (survey_of S.Store.most S.Readings.ranges self.now).plan (at (survey_of S.Store.most S.Readings.ranges self.now).store.ranges) K.Kind.ops.ranged (length board.old) (length work.old)) (survey_of S.Store.most S.Readings.ranges self.now).plan (verdict K.Kind.ops M.Measure.extend (survey_of S.Store.most S.Readings.ranges self.now).plan (at (survey_of S.Store.most S.Readings.ranges self.now).store.ranges)) board.old board.new work.old work.new }
+        ensures meaning { OneSheet K.Kind.ops M.Measure.extend (survey_of S.Store.most S.Readings.ranges self.now).plan (at (survey_of S.Store.most S.Readings.ranges self.now).store.ranges) }
     {
         monitor::draw::<K, M, S>(&self.draft, &self.store, board, work)
     }
