@@ -58,17 +58,17 @@ impl<'a, K: Kind> RowAtStep<'a, K> {
         ensures { (t : ℕ → ℕ) → ((k u : ℕ) → k < count → F.post step_of k u → u ≡ t k) → result ≡ windowed K.Kind.ops (λ k. on_board self.now K.Kind.ops.bottom window.hold (t k) place) (λ k. on_board self.now K.Kind.ops.bottom window.goal (t k) place) window.from count }
     {
         let mut held = K::top();
-        // Two loops: a step that is passed over, in one loop with the others, costs more than it spares.
-        let first = window.from.min(count);
-        for k in 0..first {
-            held = held.meet(self.standing(window.hold, step_of(k), place));
-        }
         let mut verdict = K::bottom();
-        for k in first..count {
+        for k in 0..count {
             let step = step_of(k);
             held = held.meet(self.standing(window.hold, step, place));
+            // Read at steps that do not count too: to leave them earlier makes two loops of the run, which takes longer.
             let reached = self.standing(window.goal, step, place);
-            verdict = verdict.join(reached.meet(held));
+            verdict = if window.from <= k {
+                verdict.join(reached.meet(held))
+            } else {
+                verdict
+            };
         }
         verdict
     }

@@ -5,15 +5,9 @@ use Rattle.monitor.specs.Boards.{shown}
 use Rattle.monitor.proofs.Windows.{so_far}
 use Rattle.monitor.proofs.row.RowAtStep.windowed.Given as goal
 
--- what the run has so far, where the k-th step is t(k): at steps that do not count, and at those that do
+-- what the run has so far, where the k-th step is t(k)
 abbrev pub invariant-loop-k : goal.invariant-loop-k
 invariant-loop-k g l =
-    (t : ℕ → ℕ) → ((k u : ℕ) → k < l.count → goal.F-post g l.step_of k u → u ≡ t k) →
-    (l.held ≡ so_far g.K.Kind.ops (λ k. shown (plan_of l.self.draft.now) l.self.board.now g.K.Kind.ops.bottom l.window.hold (t k) l.place) l.k)
-    × (g.K.Kind.ops.bottom ≡ windowed g.K.Kind.ops (λ k. shown (plan_of l.self.draft.now) l.self.board.now g.K.Kind.ops.bottom l.window.hold (t k) l.place) (λ k. shown (plan_of l.self.draft.now) l.self.board.now g.K.Kind.ops.bottom l.window.goal (t k) l.place) l.window.from l.k)
-
-abbrev pub invariant-loop-k-2 : goal.invariant-loop-k-2
-invariant-loop-k-2 g l =
     (t : ℕ → ℕ) → ((k u : ℕ) → k < l.count → goal.F-post g l.step_of k u → u ≡ t k) →
     (l.held ≡ so_far g.K.Kind.ops (λ k. shown (plan_of l.self.draft.now) l.self.board.now g.K.Kind.ops.bottom l.window.hold (t k) l.place) l.k)
     × (l.verdict ≡ windowed g.K.Kind.ops (λ k. shown (plan_of l.self.draft.now) l.self.board.now g.K.Kind.ops.bottom l.window.hold (t k) l.place) (λ k. shown (plan_of l.self.draft.now) l.self.board.now g.K.Kind.ops.bottom l.window.goal (t k) l.place) l.window.from l.k)
