@@ -62,7 +62,7 @@ impl<'a, K: Kind> RowAtStep<'a, K> {
         for k in 0..count {
             let step = step_of(k);
             held = held.meet(self.standing(window.hold, step, place));
-            // Read at steps that do not count too: to leave them earlier makes two loops of the run, which takes longer.
+            // Read at steps that do not count too: to leave them before takes twice as long where `from` is early.
             let reached = self.standing(window.goal, step, place);
             verdict = if window.from <= k {
                 verdict.join(reached.meet(held))
